@@ -1,0 +1,1 @@
+// No code: the words that definitions are written with, and their laws.
