@@ -19,3 +19,8 @@ ifLt a b x y = ifB (ltb a b) x y
 unfoldable pub ifEq : {A : Type 0} → ℕ → ℕ → A → A → A
 unfolding ifB
 ifEq a b x y = ifB (eqb a b) x y
+
+-- both tests hold
+unfoldable pub both : Bool → Bool → Bool
+unfolding ifB
+both s t = ifB s t false
