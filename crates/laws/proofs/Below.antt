@@ -81,6 +81,23 @@ unfolding sumBelow
 sum-zero f zero e = refl
 sum-zero f (suc n) e = omega (arith, sum-zero f n (λ k h. e k (omega arith)), e n (le-refl (suc n)))
 
+pub sum-scaled : (f g : ℕ → ℕ) (c n : ℕ) → ((k : ℕ) → k < n → f k ≤ g k * c) → sumBelow f n ≤ sumBelow g n * c
+unfolding sumBelow
+sum-scaled f g c zero b = omega arith
+sum-scaled f g c (suc n) b = omega (arith, sum-scaled f g c n (λ k h. b k (omega arith)), b n (le-refl (suc n)))
+
+-- two functions that agree but at k: their sums differ by what they give there
+pub sum-but-one : (f g : ℕ → ℕ) (n k : ℕ) → k < n → ((j : ℕ) → (j ≡ k → ⊥) → f j ≡ g j) → sumBelow f n + g k ≡ sumBelow g n + f k
+unfolding sumBelow
+sum-but-one f g zero k h e = absurd (not-suc-le-zero h)
+sum-but-one f g (suc n) k h e = at (decLt k n) (λ l. sum-but-one f g n k l e)
+  where
+    at : Dec (k < n) → (k < n → sumBelow f n + g k ≡ sumBelow g n + f k) → sumBelow f n + f n + g k ≡ sumBelow g n + g n + f k
+    at (yes l) r = omega (arith, r l, e n (λ q. omega arith))
+    at (no l) r =
+        let q : n ≡ k = omega arith in
+        omega (arith, ap f q, ap g q, sum-same f g n (λ j m. e j (λ d. omega arith)))
+
 -- ---- one after the other
 
 pub fold-start : {A : Type 0} (f : ℕ → A → A) (z : A) → foldBelow f z 0 ≡ z

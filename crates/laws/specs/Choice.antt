@@ -12,15 +12,12 @@ ifB false x y = y
 
 -- x where a is below b, y where not
 unfoldable pub ifLt : {A : Type 0} → ℕ → ℕ → A → A → A
-unfolding ifB
 ifLt a b x y = ifB (ltb a b) x y
 
 -- x where a is b, y where not
 unfoldable pub ifEq : {A : Type 0} → ℕ → ℕ → A → A → A
-unfolding ifB
 ifEq a b x y = ifB (eqb a b) x y
 
 -- both tests hold
 unfoldable pub both : Bool → Bool → Bool
-unfolding ifB
 both s t = ifB s t false

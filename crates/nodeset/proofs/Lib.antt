@@ -1,0 +1,3 @@
+pub mod Digits
+pub mod Marks
+pub mod Members
