@@ -8,11 +8,11 @@ use native.Mathlib.Omega.{arith}
 use native.Mathlib.Decide.{decLt}
 use mathlib.Core.Path.{_≡_, refl, sym, _∙_, ap, ap₂, subst}
 use mathlib.Core.Bool.{Bool, true, false}
-use mathlib.Core.List.{List}
-use lib.ListN.{length, getD, set, length-set}
-use lib.Seq.{getD-set-same, getD-set-other}
+use mathlib.Core.List.{List, [], _∷_, _++_}
+use lib.ListN.{length, getD, set, length-set, length-append, List·getD-append}
+use lib.Seq.{getD-set-same, getD-set-other, getD-at, ext-getD}
 use Rattle.laws.specs.Choice.{ifB, ifLt, both}
-use Rattle.laws.specs.Below.{allBelow, sumBelow, countBelow, foldBelow, firstOf, overBelow}
+use Rattle.laws.specs.Below.{allBelow, sumBelow, countBelow, foldBelow, firstOf, overBelow, listBelow}
 use Rattle.laws.proofs.Choice.{ifB-yes, ifB-no, ifLt-yes, ifLt-no, both-yes, both-left, both-right, lt-elim, b-elim}
 
 -- k below n + 1 is n itself or below n
@@ -206,5 +206,26 @@ module _ {A : Type 0} (f : ℕ → A) where
       (λ m l′. getD-set-other (overBelow f n xs) n k (f n) d (λ e. omega arith) ∙ over-below n xs k d m l′)
       (λ l′. getD-set-same (overBelow f n xs) n (f n) d (omega (arith, length-over n xs)))
       l
+
+-- ---- the list of the entries below n
+
+module _ {A : Type 0} (f : ℕ → A) where
+  pub length-list : (n : ℕ) → length (listBelow f n) ≡ n
+  unfolding listBelow
+  length-list zero = refl
+  length-list (suc n) = length-append (listBelow f n) (f n ∷ []) ∙ omega (arith, length-list n)
+
+  pub list-at : (n k : ℕ) (d : A) → k < n → getD (listBelow f n) k d ≡ f k
+  unfolding listBelow
+  list-at zero k d h = absurd (not-suc-le-zero h)
+  list-at (suc n) k d h =
+      below-split (λ j. getD (listBelow f n ++ f n ∷ []) j d ≡ f j) n k h
+      (λ l. List·getD-append (listBelow f n) (f n ∷ []) d k (omega (arith, length-list n)) ∙ list-at n k d l)
+      (getD-at (listBelow f n) (f n) [] d n (length-list n))
+
+  -- a list of n entries with f k at every place is that list
+  pub list-is : (n : ℕ) (xs : List A) (d : A) → length xs ≡ n → ((k : ℕ) → k < n → getD xs k d ≡ f k) → xs ≡ listBelow f n
+  list-is n xs d e h =
+      ext-getD d xs (listBelow f n) (e ∙ sym (length-list n)) (λ k l. h k (omega arith) ∙ sym (list-at n k d (omega arith)))
 
 pub ruleset aboves = (all-start, all-more, all-fails, all-end, first-start, first-more, first-found, first-end)

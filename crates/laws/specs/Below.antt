@@ -3,7 +3,7 @@
 -- Assumes nothing.
 use Prim.Native.Nat.{ℕ, zero, suc, _+_}
 use mathlib.Core.Bool.{Bool, true}
-use mathlib.Core.List.{List}
+use mathlib.Core.List.{List, [], _∷_, _++_}
 use lib.ListN.{set}
 use Rattle.laws.specs.Choice.{ifB, ifLt, both}
 
@@ -35,3 +35,8 @@ firstOf t (suc n) = ifLt (firstOf t n) n (firstOf t n) (ifB (t n) n (suc n))
 unfoldable pub overBelow : {A : Type 0} → (ℕ → A) → ℕ → List A → List A
 overBelow f zero xs = xs
 overBelow f (suc n) xs = set (overBelow f n xs) n (f n)
+
+-- the list f 0, f 1, .. , of the n entries below n
+unfoldable pub listBelow : {A : Type 0} → (ℕ → A) → ℕ → List A
+listBelow f zero = []
+listBelow f (suc n) = listBelow f n ++ f n ∷ []
