@@ -56,6 +56,11 @@ all-fails t n i h e = go (allBelow t n) refl
 pub all-end : (t : ℕ → Bool) (n i : ℕ) → allBelow t i ≡ true → i ≤ n → n ≤ i → true ≡ allBelow t n
 all-end t n i p a b = sym p ∙ ap (allBelow t) (le-antisymm a b)
 
+pub all-same : (s t : ℕ → Bool) (n : ℕ) → ((k : ℕ) → k < n → s k ≡ t k) → allBelow s n ≡ allBelow t n
+unfolding allBelow
+all-same s t zero e = refl
+all-same s t (suc n) e = ap₂ both (all-same s t n (λ k h. e k (omega arith))) (e n (le-refl (suc n)))
+
 -- ---- sums
 
 pub sum-start : (f : ℕ → ℕ) → sumBelow f 0 ≡ 0

@@ -6,7 +6,7 @@ use native.Mathlib.Omega.{arith}
 use mathlib.Core.Path.{_≡_, refl, sym, _∙_, subst}
 use mathlib.Core.Bool.{Bool, true, false}
 use lib.Dec.{ltb, eqb}
-use borrow.Author.Tests.{lt-ltb, le-ltb, eq-eqb, ne-eqb, ltb-true, ltb-false, eqb-true, eqb-false}
+use borrow.Author.Tests.{lt-ltb, le-ltb, le-leb, lt-leb, eq-eqb, ne-eqb, ltb-true, ltb-false, eqb-true, eqb-false}
 use Rattle.laws.specs.Choice.{ifB, ifLt, ifEq, both}
 
 -- ---- which branch a test picks
@@ -55,7 +55,18 @@ yes-eq A a b x y z h p = p ∙ sym (ifEq-yes a b x y h)
 pub no-eq : (A : Type 0) (a b : ℕ) (x y z : A) → (a ≡ b → ⊥) → z ≡ y → z ≡ ifEq a b x y
 no-eq A a b x y z h p = p ∙ sym (ifEq-no a b x y h)
 
-pub ruleset picks = (yes-b, no-b, yes-lt, no-lt, yes-eq, no-eq)
+pub both-on : (s t z : Bool) → s ≡ true → z ≡ t → z ≡ both s t
+unfolding both
+both-on s t z e p = yes-b Bool s t false z e p
+
+pub both-off : (s t z : Bool) → s ≡ false → z ≡ false → z ≡ both s t
+unfolding both
+both-off s t z e p = no-b Bool s t false z e p
+
+pub ruleset picks = (yes-b, no-b, yes-lt, no-lt, yes-eq, no-eq, both-on, both-off)
+
+-- a test of the code, as an equation of the same test in a definition
+pub ruleset tests = (lt-ltb, le-ltb, le-leb, lt-leb, eq-eqb, ne-eqb)
 
 -- ---- a definition taken apart: P holds of the choice where it holds of each branch under its test
 

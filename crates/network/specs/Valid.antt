@@ -3,6 +3,7 @@
 use Prim.Native.Nat.{ℕ, _-_, _<_, _≤_}
 use mathlib.Core.Path.{_≡_}
 use mathlib.Core.Bool.{Bool, true, false}
+use mathlib.Core.List.{List}
 use lib.ListN.{getD}
 use lib.Dec.{ltb, leb, eqb}
 use Rattle.laws.specs.Choice.{ifLt, ifEq, both}
@@ -13,7 +14,7 @@ use Rattle.network.specs.Sets.{neighboursOf, childrenOf, preferredOf}
 -- "Nodes 1 to 64, links 0 to 128", "rounds, 1 to 10,000"
 unfoldable pub withinLimits : ℕ → ℕ → ℕ → Bool
 withinLimits nodes links rounds =
-    both (both (ltb 0 nodes) (leb nodes 64)) (both (leb links 128) (both (ltb 0 rounds) (leb rounds 10000)))
+    both (leb 1 nodes) (both (leb nodes 64) (both (leb links 128) (both (leb 1 rounds) (leb rounds 10000))))
 
 -- a node's entries: its parent is below the node count; past the count its entries are 0
 unfoldable pub nodeFits : ℕ → ℕ → ℕ → ℕ → Bool
@@ -27,26 +28,30 @@ rises a b c d = ifLt a c true (ifEq a c (ltb b d) false)
 unfoldable pub linkFits : ℕ → ℕ → ℕ → ℕ → Bool
 linkFits nodes a b flag = both (ltb a b) (both (ltb b nodes) (ltb flag 2))
 
--- the link at place l of the list: it fits, and rises above the one before it; past the link count its entries are 0
-unfoldable pub linkStands : Network → ℕ → Bool
-linkStands net l =
-    ifLt l (net .links)
-    (both (linkFits (net .nodes) (getD (net .lowers) l 0) (getD (net .uppers) l 0) (getD (net .flags) l 0))
-    (ifEq l 0 true (rises (getD (net .lowers) (l - 1) 0) (getD (net .uppers) (l - 1) 0) (getD (net .lowers) l 0) (getD (net .uppers) l 0))))
-    (both (eqb (getD (net .lowers) l 0) 0) (both (eqb (getD (net .uppers) l 0) 0) (eqb (getD (net .flags) l 0) 0)))
+-- the link at place l rises above the one before it
+unfoldable pub linkRises : List ℕ → List ℕ → ℕ → Bool
+linkRises lowers uppers l =
+    ifEq l 0 true (rises (getD lowers (l - 1) 0) (getD uppers (l - 1) 0) (getD lowers l 0) (getD uppers l 0))
 
--- the sets kept for node p are what the lists give
-unfoldable pub setsAgree : Network → ℕ → Bool
-setsAgree net p =
-    both (eqb (getD (net .neighbours) p 0) (neighboursOf net p))
-    (both (eqb (getD (net .children) p 0) (childrenOf net p)) (eqb (getD (net .preferred) p 0) (preferredOf net p)))
+-- the link at place l: it fits and rises; past the link count its entries are 0
+unfoldable pub linkStands : ℕ → ℕ → List ℕ → List ℕ → List ℕ → ℕ → Bool
+linkStands nodes links lowers uppers flags l =
+    ifLt l links
+    (both (linkFits nodes (getD lowers l 0) (getD uppers l 0) (getD flags l 0)) (linkRises lowers uppers l))
+    (both (eqb (getD lowers l 0) 0) (both (eqb (getD uppers l 0) 0) (eqb (getD flags l 0) 0)))
+
+-- the sets kept for the 64 places are what the lists give
+unfoldable pub agrees : List ℕ → (ℕ → ℕ) → Bool
+agrees kept given = allBelow (λ p. eqb (getD kept p 0) (given p)) 64
 
 -- the network is within the ranges of answer 17
 unfoldable pub validNetwork : Network → Bool
 validNetwork net =
     both (withinLimits (net .nodes) (net .links) (net .rounds))
     (both (allBelow (λ p. nodeFits (net .nodes) p (getD (net .parents) p 0) (getD (net .starts) p 0)) 64)
-    (both (allBelow (linkStands net) 128) (allBelow (setsAgree net) 64)))
+    (both (allBelow (linkStands (net .nodes) (net .links) (net .lowers) (net .uppers) (net .flags)) 128)
+    (both (agrees (net .neighbours) (neighboursOf net))
+    (both (agrees (net .children) (childrenOf net)) (agrees (net .preferred) (preferredOf net))))))
 
 -- ---- the same list as propositions, clause by clause in document 01's words
 

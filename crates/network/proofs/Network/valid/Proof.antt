@@ -1,0 +1,39 @@
+-- `Network::valid`: the tests are the definition's, in its order.
+-- Assumes nothing.
+use borrow.Author.Needs.{needs}
+use Rattle.laws.proofs.Choice.{picks}
+use Rattle.network.specs.Valid.{validNetwork}
+use Rattle.network.proofs.Network.valid.Statement.{statement}
+use Rattle.network.proofs.Network.valid.Tie as tie
+
+returns : tie.Need-returns
+unfolding validNetwork
+returns c =
+    rw (c .sets-agree .ensures, ← c .before .before .links-stand .ensures, ← c .before .before .before .before .before .before .before .nodes-fit .ensures, ← c .before .before .before .before .before .before .before .before .before .before .before .within-limits .ensures)
+    (search (needs, picks))
+
+returns-2 : tie.Need-returns-2
+unfolding validNetwork
+returns-2 c =
+    rw (← c .before .links-stand .ensures, ← c .before .before .before .before .before .before .nodes-fit .ensures, ← c .before .before .before .before .before .before .before .before .before .before .within-limits .ensures)
+    (search (needs, picks))
+
+returns-3 : tie.Need-returns-3
+unfolding validNetwork
+returns-3 c = rw (← c .before .nodes-fit .ensures, ← c .before .before .before .before .before .within-limits .ensures) (search (needs, picks))
+
+returns-4 : tie.Need-returns-4
+unfolding validNetwork
+returns-4 c = rw (← c .before .within-limits .ensures) (search (needs, picks))
+
+pub valid-spec : {M : Type 1} → statement M
+valid-spec =
+    tie.close
+    (tie.spec (λ c κs. search needs)
+    (λ c κs. search needs)
+    (λ c κs. search needs)
+    (λ c κs. search needs)
+    returns
+    returns-2
+    returns-3
+    returns-4)
