@@ -17,7 +17,7 @@ use Rattle.laws.proofs.Below.{fold-keeps}
 use Rattle.nodeset.specs.Marks.{member, inserted}
 use Rattle.nodeset.proofs.Marks.{empty-has-none, inserted-is-in, inserted-keeps-others, inserted-fits, member-below}
 use Rattle.network.specs.declared.Network.{Network}
-use Rattle.network.specs.Sets.{towards, linkGives, linkSet, childSet}
+use Rattle.network.specs.Sets.{towards, linkGives, linkSet, childSet, Ends, rising, falling}
 
 -- ---- one more member
 
@@ -75,11 +75,6 @@ gathered-to step keeps (suc n) i k h g = at (decLt i n) (λ l. gathered-to step 
         subst (λ j. member (step j (foldBelow step 0 n)) k ≡ true) e (g (foldBelow step 0 n))
 
 -- ---- neighbours and preferred neighbours
-
--- the link l has the ends p and q, one way round or the other
-pub data Ends (lowers uppers : List ℕ) (l p q : ℕ) : Type 0 where
-  rising : getD lowers l 0 ≡ p → getD uppers l 0 ≡ q → Ends lowers uppers l p q
-  falling : getD lowers l 0 ≡ q → getD uppers l 0 ≡ p → Ends lowers uppers l p q
 
 module _ (lowers uppers flags : List ℕ) (least : ℕ) where
   pub link-set-from : (n p q : ℕ) → member (linkSet lowers uppers flags least n p) q ≡ true

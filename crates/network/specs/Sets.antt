@@ -1,6 +1,7 @@
 -- How a node's neighbour, child and preferred set come from the lists of links and parents.
 -- Assumes nothing.
 use Prim.Native.Nat.{ℕ, min}
+use mathlib.Core.Path.{_≡_}
 use mathlib.Core.List.{List}
 use lib.ListN.{getD, set}
 use Rattle.laws.specs.Choice.{ifLt, ifEq}
@@ -15,6 +16,11 @@ towards x q p s = ifEq x p (inserted s q) s
 -- what one link gives to p's set: the other end, where p is an end
 unfoldable pub linkGives : ℕ → ℕ → ℕ → ℕ → ℕ
 linkGives a b p s = towards b a p (towards a b p s)
+
+-- the link at place l has the ends p and q, one way round or the other
+pub data Ends (lowers uppers : List ℕ) (l p q : ℕ) : Type 0 where
+  rising : getD lowers l 0 ≡ p → getD uppers l 0 ≡ q → Ends lowers uppers l p q
+  falling : getD lowers l 0 ≡ q → getD uppers l 0 ≡ p → Ends lowers uppers l p q
 
 -- p's set over the first n links whose flag is at least the one asked for: 0 asks for all links, 1 for the preferred ones
 unfoldable pub linkSet : List ℕ → List ℕ → List ℕ → ℕ → ℕ → ℕ → ℕ
