@@ -14,10 +14,10 @@ impl NodeSet {
         ensures { λ r. ⌜ r ≡ member (self .marks) node ⌝ }
     {
         let marks = self.marks;
-        if 64 <= node {
-            return false;
+        if node < 64 {
+            return (marks >> node) % 2 == 1;
         }
-        (marks >> node) % 2 == 1
+        false
     }
 
     // The set with one more node.
