@@ -1,0 +1,46 @@
+// The lockstep table: every node takes the mean of its own and its neighbours' values, all at once, round after round.
+use nodeset::NodeSet;
+ghost use mathlib.Core.Path.{_≡_};
+ghost use Prim.Native.Nat.{_+_, _*_, _≤_, _<_};
+ghost use lib.ListN.{getD};
+ghost use Rattle.nodeset.specs.Marks.{sizeOf, sumIn};
+ghost use Rattle.lockstep.specs.Rule.{shareOf, meanOf};
+
+fn wide(value: u16) -> u32
+    ensures { λ r. ⌜ (r ≡ value) × (r ≤ 65535) ⌝ }
+{
+    value as u32
+}
+
+// One share of the sum: the only place that divides.
+fn share(sum: u32, count: u32) -> u16
+    requires { ⌜ (0 < count) × (count ≤ 65) × (sum ≤ 65535 * count) ⌝ }
+    ensures { λ r. ⌜ r ≡ shareOf sum count ⌝ }
+{
+    (sum / count) as u16
+}
+
+// The sum of what was heard from the members of the set: "its size is a count of them" bounds it.
+fn sum_in(set: NodeSet, heard: &[u16; 64]) -> u32
+    ensures { λ r. ⌜ (r ≡ sumIn (λ q. getD (now (heard .entry)) q 0) (set .marks)) × (r ≤ 65535 * sizeOf (set .marks)) ⌝ }
+{
+    let mut rest = set;
+    let mut sum: u32 = 0;
+    while 0 < rest.marks {
+        let q = rest.lowest() as usize;
+        sum += wide(heard[q]);
+        let others = rest.remove(q);
+        rest = others;
+    }
+    sum
+}
+
+// The new value of a node: "(own value + the values .. from each neighbour) divided by (1 + number of neighbours), the remainder dropped".
+// `heard` is by node number; what stands there for others than the members of the set does not matter.
+pub fn mean(set: NodeSet, own: u16, heard: &[u16; 64]) -> u16
+    ensures { λ r. ⌜ r ≡ meanOf (set .marks) own (now (heard .entry)) ⌝ }
+{
+    let sum = wide(own) + sum_in(set, heard);
+    let count = 1 + set.size();
+    share(sum, count)
+}
