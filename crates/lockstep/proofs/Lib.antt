@@ -1,2 +1,4 @@
 pub mod Members
+pub mod Over
+pub mod Rounds
 pub mod Rule

@@ -2,9 +2,11 @@
 use nodeset::NodeSet;
 ghost use mathlib.Core.Path.{_≡_};
 ghost use Prim.Native.Nat.{_+_, _*_, _≤_, _<_};
-ghost use lib.ListN.{getD};
+ghost use lib.ListN.{length, getD};
+ghost use Rattle.laws.specs.Below.{overBelow};
 ghost use Rattle.nodeset.specs.Marks.{sizeOf, sumIn};
-ghost use Rattle.lockstep.specs.Rule.{shareOf, meanOf};
+ghost use Rattle.lockstep.specs.Rule.{shareOf, ruleOf, meanOf};
+ghost use Rattle.lockstep.specs.Rounds.{roundBy, roundsBy};
 
 fn wide(value: u16) -> u32
     ensures { λ r. ⌜ (r ≡ value) × (r ≤ 65535) ⌝ }
@@ -43,4 +45,45 @@ pub fn mean(set: NodeSet, own: u16, heard: &[u16; 64]) -> u16
     let sum = wide(own) + sum_in(set, heard);
     let count = 1 + set.size();
     share(sum, count)
+}
+
+// One round: every node's new value, all from the values before it.
+fn round(nodes: usize, sets: &[u64; 64], values: &[u16; 64]) -> [u16; 64]
+    requires { ⌜ nodes ≤ 64 ⌝ }
+    ensures { λ r. ⌜ r ≡ roundBy ruleOf (now (sets .entry)) nodes (now (values .entry)) ⌝ }
+{
+    let mut next = *values;
+    let mut p = 0;
+    while p < nodes {
+        next[p] = mean(NodeSet { marks: sets[p] }, values[p], values);
+        p += 1;
+    }
+    next
+}
+
+// The values after so many rounds.
+fn run(nodes: usize, sets: &[u64; 64], starts: &[u16; 64], rounds: u16) -> [u16; 64]
+    requires { ⌜ nodes ≤ 64 ⌝ }
+    ensures { λ r. ⌜ r ≡ roundsBy ruleOf (now (sets .entry)) nodes rounds (now (starts .entry)) ⌝ }
+{
+    let mut values = *starts;
+    let mut k = 0;
+    while k < rounds {
+        let next = round(nodes, sets, &values);
+        values = next;
+        k += 1;
+    }
+    values
+}
+
+// The nodes' values into the buffer. "Table entries past the node count are not written."
+fn fill(values: &[u16; 64], nodes: usize, out: &mut [u16])
+    requires { ⌜ (nodes ≤ 64) × (nodes ≤ length (now out)) ⌝ }
+    ensures { λ _. ⌜ now (out .exit) ≡ overBelow (λ p. getD (now (values .entry)) p 0) nodes (now (out .entry)) ⌝ }
+{
+    let mut p = 0;
+    while p < nodes {
+        out[p] = values[p];
+        p += 1;
+    }
 }

@@ -1,0 +1,61 @@
+-- What the rounds give at each node, round by round. A round replaces every node's value, and each new value comes from the values before the
+-- round; so what a node has after k + 1 rounds is the rule at what all nodes have after k.
+-- Assumes nothing.
+use Prim.Native.Nat.{ℕ, zero, suc, _+_, _<_, _≤_}
+use native.Mathlib.Nat.{le-antisymm}
+use native.Mathlib.Numerals.{add-one}
+use mathlib.Core.Path.{_≡_, refl, sym, _∙_, ap}
+use mathlib.Core.Bool.{true}
+use mathlib.Core.List.{List}
+use lib.ListN.{length, getD}
+use Rattle.laws.specs.Below.{overBelow}
+use Rattle.laws.proofs.Below.{length-over, over-below, over-above}
+use Rattle.nodeset.specs.Marks.{member}
+use Rattle.lockstep.specs.Members.{valuesIn}
+use Rattle.lockstep.specs.Rule.{ruleOf, meanOf}
+use Rattle.lockstep.specs.Rounds.{nextBy, roundBy, roundsBy}
+use Rattle.lockstep.proofs.Members.{values-same}
+
+-- the mean over the values of all nodes is the node's new value
+pub mean-is-next : (sets xs : List ℕ) (p : ℕ) → meanOf (getD sets p 0) (getD xs p 0) xs ≡ nextBy ruleOf sets xs p
+unfolding meanOf nextBy
+mean-is-next sets xs p = refl
+
+module _ (rule : ℕ → List ℕ → ℕ) (sets : List ℕ) (nodes : ℕ) (xs : List ℕ) where
+  pub rounds-start : roundsBy rule sets nodes 0 xs ≡ xs
+  unfolding roundsBy
+  rounds-start = refl
+
+  -- one turn of the loop over the rounds, and its end; the counter is written `k + 1`, as the code has it
+  pub rounds-more : (k : ℕ) (ys zs : List ℕ) → ys ≡ roundsBy rule sets nodes k xs → zs ≡ roundBy rule sets nodes ys → zs ≡ roundsBy rule sets nodes (k + 1) xs
+  unfolding roundsBy
+  rounds-more k ys zs before turn = rw add-one (turn ∙ ap (roundBy rule sets nodes) before)
+
+  pub rounds-end : (n k : ℕ) (ys : List ℕ) → ys ≡ roundsBy rule sets nodes k xs → k ≤ n → n ≤ k → ys ≡ roundsBy rule sets nodes n xs
+  rounds-end n k ys held a b = held ∙ ap (λ j. roundsBy rule sets nodes j xs) (le-antisymm a b)
+
+  pub length-rounds : (k : ℕ) → length (roundsBy rule sets nodes k xs) ≡ length xs
+  unfolding roundsBy roundBy
+  length-rounds zero = refl
+  length-rounds (suc k) =
+      length-over (nextBy rule sets (roundsBy rule sets nodes k xs)) nodes (roundsBy rule sets nodes k xs) ∙ length-rounds k
+
+  -- a node's value after one round more
+  pub rounds-at : (k p : ℕ) → p < nodes → p < length xs → getD (roundsBy rule sets nodes (suc k) xs) p 0 ≡ nextBy rule sets (roundsBy rule sets nodes k xs) p
+  unfolding roundsBy roundBy
+  rounds-at k p below room =
+      over-below (nextBy rule sets (roundsBy rule sets nodes k xs)) nodes (roundsBy rule sets nodes k xs) p 0 below (rw (length-rounds k) room)
+
+  -- the entries past the nodes stay as they were
+  pub rounds-past : (k p : ℕ) → nodes ≤ p → getD (roundsBy rule sets nodes k xs) p 0 ≡ getD xs p 0
+  unfolding roundsBy roundBy
+  rounds-past zero p past = refl
+  rounds-past (suc k) p past =
+      over-above (nextBy rule sets (roundsBy rule sets nodes k xs)) nodes (roundsBy rule sets nodes k xs) p 0 past ∙ rounds-past k p past
+
+  -- where what was heard agrees with the last round's values on p's members, the rule gives p's value of the next round
+  pub heard-gives-next : (k p : ℕ) (heard : ℕ → ℕ) → p < nodes → p < length xs → ((q : ℕ) → member (getD sets p 0) q ≡ true → heard q ≡ getD (roundsBy rule sets nodes k xs) q 0) → rule (getD (roundsBy rule sets nodes k xs) p 0) (valuesIn heard (getD sets p 0)) ≡ getD (roundsBy rule sets nodes (suc k) xs) p 0
+  unfolding nextBy
+  heard-gives-next k p heard below room agree =
+      ap (rule (getD (roundsBy rule sets nodes k xs) p 0)) (values-same heard (λ q. getD (roundsBy rule sets nodes k xs) q 0) (getD sets p 0) agree)
+      ∙ sym (rounds-at k p below room)
