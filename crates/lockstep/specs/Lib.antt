@@ -1,3 +1,5 @@
 pub mod Members
 pub mod Rounds
 pub mod Rule
+pub mod Table
+pub mod Trials

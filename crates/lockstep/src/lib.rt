@@ -1,4 +1,5 @@
 // The lockstep table: every node takes the mean of its own and its neighbours' values, all at once, round after round.
+use network::Network;
 use nodeset::NodeSet;
 ghost use mathlib.Core.Path.{_≡_};
 ghost use Prim.Native.Nat.{_+_, _*_, _≤_, _<_};
@@ -7,6 +8,16 @@ ghost use Rattle.laws.specs.Below.{overBelow};
 ghost use Rattle.nodeset.specs.Marks.{sizeOf, sumIn};
 ghost use Rattle.lockstep.specs.Rule.{shareOf, ruleOf, meanOf};
 ghost use Rattle.lockstep.specs.Rounds.{roundBy, roundsBy};
+ghost use Rattle.lockstep.specs.Table.{tableNumber, tableOf};
+
+// The answers of a table.
+const ACCEPTED: u8 = 0;
+
+const NETWORK_OUT_OF_RANGE: u8 = 17;
+
+const MORE_ROUNDS_THAN_PLANNED: u8 = 20;
+
+const BUFFER_TOO_SHORT: u8 = 21;
 
 fn wide(value: u16) -> u32
     ensures { λ r. ⌜ (r ≡ value) × (r ≤ 65535) ⌝ }
@@ -86,4 +97,38 @@ fn fill(values: &[u16; 64], nodes: usize, out: &mut [u16])
         out[p] = values[p];
         p += 1;
     }
+}
+
+// The answer to a table of so many rounds, in a buffer of so many entries.
+fn answer(net: Network, rounds: u16, room: usize) -> u8
+    ensures { λ r. ⌜ r ≡ tableNumber net rounds room ⌝ }
+{
+    let nodes = net.nodes;
+    let planned = net.rounds;
+    if net.valid() {
+        if planned < rounds {
+            return MORE_ROUNDS_THAN_PLANNED;
+        }
+        if room < nodes {
+            return BUFFER_TOO_SHORT;
+        }
+        return ACCEPTED;
+    }
+    NETWORK_OUT_OF_RANGE
+}
+
+// The lockstep table of so many rounds: each node's value, in the first entries of the buffer. A refused table writes nothing.
+pub fn table(net: Network, rounds: u16, out: &mut [u16]) -> u8
+    ensures { λ r. ⌜ (r ≡ tableNumber net rounds (length (now (out .entry)))) × (now (out .exit) ≡ tableOf net rounds (now (out .entry))) ⌝ }
+{
+    let nodes = net.nodes;
+    let neighbours = net.neighbours;
+    let starts = net.starts;
+    let number = answer(net, rounds, out.len());
+    if ACCEPTED < number {
+        return number;
+    }
+    let values = run(nodes, &neighbours, &starts, rounds);
+    fill(&values, nodes, out);
+    number
 }
