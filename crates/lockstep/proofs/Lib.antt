@@ -1,6 +1,6 @@
-pub mod Accepted
 pub mod Members
 pub mod Over
 pub mod Rounds
 pub mod Rule
+pub mod Tables
 pub mod Trials

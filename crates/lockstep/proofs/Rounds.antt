@@ -11,10 +11,13 @@ use lib.ListN.{length, getD}
 use Rattle.laws.specs.Below.{overBelow}
 use Rattle.laws.proofs.Below.{length-over, over-below, over-above}
 use Rattle.nodeset.specs.Marks.{member}
+use Rattle.network.specs.declared.Network.{Network}
 use Rattle.lockstep.specs.Members.{valuesIn}
 use Rattle.lockstep.specs.Rule.{ruleOf, meanOf}
-use Rattle.lockstep.specs.Rounds.{nextBy, roundBy, roundsBy}
+use Rattle.lockstep.specs.Rounds.{nextBy, roundBy, roundsBy, lockstepOf}
 use Rattle.lockstep.proofs.Members.{values-same}
+use Rattle.lockstep.proofs.Over.{over-keeps}
+use Rattle.lockstep.proofs.Rule.{rule-below}
 
 -- the mean over the values of all nodes is the node's new value
 pub mean-is-next : (sets xs : List ℕ) (p : ℕ) → meanOf (getD sets p 0) (getD xs p 0) xs ≡ nextBy ruleOf sets xs p
@@ -59,3 +62,31 @@ module _ (rule : ℕ → List ℕ → ℕ) (sets : List ℕ) (nodes : ℕ) (xs :
   heard-gives-next k p heard below room agree =
       ap (rule (getD (roundsBy rule sets nodes k xs) p 0)) (values-same heard (λ q. getD (roundsBy rule sets nodes k xs) q 0) (getD sets p 0) agree)
       ∙ sym (rounds-at k p below room)
+
+-- from u16 values every round gives u16 values
+pub rounds-below : (sets : List ℕ) (nodes : ℕ) (xs : List ℕ) → ((q : ℕ) → getD xs q 0 < 65536) → (k q : ℕ) → getD (roundsBy ruleOf sets nodes k xs) q 0 < 65536
+unfolding roundsBy roundBy nextBy
+rounds-below sets nodes xs h zero q = h q
+rounds-below sets nodes xs h (suc k) q =
+    let ys = roundsBy ruleOf sets nodes k xs in
+    let last = rounds-below sets nodes xs h k in
+    over-keeps (λ v. v < 65536) (nextBy ruleOf sets ys) nodes ys 0 (λ p. rule-below (λ j. getD ys j 0) (getD sets p 0) (getD ys p 0) (last p) last) last q
+
+-- ---- of a network
+
+module _ (net : Network) where
+  -- "from the start values"
+  pub lockstep-start : lockstepOf net 0 ≡ net .starts
+  unfolding lockstepOf roundsBy
+  lockstep-start = refl
+
+  -- every value of the table is a u16
+  pub lockstep-below : ((q : ℕ) → getD (net .starts) q 0 < 65536) → (k q : ℕ) → getD (lockstepOf net k) q 0 < 65536
+  unfolding lockstepOf
+  lockstep-below h k q = rounds-below (net .neighbours) (net .nodes) (net .starts) h k q
+
+  -- where p heard from each neighbour its value after k rounds, the mean is p's value after k + 1
+  pub mean-gives-next : (k p : ℕ) (heard : List ℕ) → p < net .nodes → p < length (net .starts) → ((q : ℕ) → member (getD (net .neighbours) p 0) q ≡ true → getD heard q 0 ≡ getD (lockstepOf net k) q 0) → meanOf (getD (net .neighbours) p 0) (getD (lockstepOf net k) p 0) heard ≡ getD (lockstepOf net (suc k)) p 0
+  unfolding lockstepOf meanOf
+  mean-gives-next k p heard below room agree =
+      heard-gives-next ruleOf (net .neighbours) (net .nodes) (net .starts) k p (λ q. getD heard q 0) below room agree

@@ -6,11 +6,11 @@ use native.Mathlib.Omega.{arith}
 use mathlib.Core.Path.{_≡_, refl, sym, _∙_, ap, ap₂}
 use mathlib.Core.List.{List}
 use lib.ListN.{length, getD}
-use Rattle.nodeset.specs.Marks.{member, sizeOf, sumIn}
+use Rattle.nodeset.specs.Marks.{sizeOf, sumIn}
 use Rattle.nodeset.proofs.Members.{sum-in-at-most}
 use Rattle.lockstep.specs.Members.{valuesIn}
 use Rattle.lockstep.specs.Rule.{shareOf, total, ruleOf, meanOf}
-use Rattle.lockstep.proofs.Members.{length-values, total-values, values-same}
+use Rattle.lockstep.proofs.Members.{length-values, total-values}
 
 pub mean-by-marks : (m own : ℕ) (heard : List ℕ) → meanOf m own heard ≡ shareOf (own + sumIn (λ q. getD heard q 0) m) (1 + sizeOf m)
 unfolding meanOf ruleOf
@@ -21,3 +21,10 @@ mean-by-marks m own heard =
 pub share-below : (sum count : ℕ) → 0 < count → sum ≤ 65535 * count → shareOf sum count < 65536
 unfolding shareOf
 share-below sum count some at-most = div-lt-iff-lt-mul some .1 (omega arith)
+
+-- of u16 values the rule makes a u16 value
+pub rule-below : (f : ℕ → ℕ) (m own : ℕ) → own < 65536 → ((q : ℕ) → f q < 65536) → ruleOf own (valuesIn f m) < 65536
+unfolding ruleOf
+rule-below f m own o h =
+    share-below (own + total (valuesIn f m)) (1 + length (valuesIn f m)) (omega arith)
+    (omega (arith, total-values f m, length-values f m, sum-in-at-most f 65535 m (λ q _. omega (arith, h q))))

@@ -10,7 +10,7 @@ use lib.ListN.{length, getD}
 use Rattle.laws.specs.Below.{overBelow}
 use Rattle.lockstep.specs.Rounds.{lockstepOf}
 use Rattle.lockstep.specs.Table.{tableNumber}
-use Rattle.lockstep.proofs.Accepted.{Accepted, accepted, valid-at-most-64, refused-unwritten, accepted-written}
+use Rattle.lockstep.proofs.Tables.{Accepted, accepted, valid-at-most-64, refused-unwritten, accepted-written}
 use Rattle.lockstep.proofs.table.Statement.{statement}
 use Rattle.lockstep.proofs.table.Tie as tie
 

@@ -1,4 +1,4 @@
--- What the answer of a table says of the network, the rounds and the buffer.
+-- What the answer of a table says of the network, the rounds and the buffer, and what the buffer holds afterwards, entry by entry.
 -- Assumes nothing.
 use Prim.Native.Nat.{ℕ, _<_, _≤_}
 use native.Mathlib.Omega.{arith}
@@ -10,11 +10,13 @@ use lib.Dec.{leb}
 use lib.ListN.{length, getD}
 use Rattle.laws.specs.Choice.{ifB, ifLt, ifEq, both}
 use Rattle.laws.specs.Below.{allBelow, overBelow}
-use Rattle.laws.proofs.Choice.{b-elim, lt-elim, ifEq-yes, ifEq-no, both-left, both-right}
+use Rattle.laws.proofs.Choice.{b-elim, lt-elim, eq-elim, ifEq-yes, ifEq-no, both-left, both-right}
+use Rattle.laws.proofs.Below.{length-over, over-below, over-above}
 use Rattle.network.specs.declared.Network.{Network}
 use Rattle.network.specs.Valid.{withinLimits, nodeFits, linkStands, agrees, validNetwork}
 use Rattle.lockstep.specs.Rounds.{lockstepOf}
 use Rattle.lockstep.specs.Table.{tableNumber, tableOf}
+use Rattle.lockstep.proofs.Rounds.{lockstep-start}
 
 -- a network within the ranges of 17 has at most 64 nodes
 pub valid-at-most-64 : (net : Network) → validNetwork net ≡ true → net .nodes ≤ 64
@@ -48,3 +50,26 @@ module _ (net : Network) (rounds : ℕ) (out : List ℕ) where
   unfolding tableOf
   accepted-written e =
       ifEq-yes (tableNumber net rounds (length out)) 0 (overBelow (λ p. getD (lockstepOf net rounds) p 0) (net .nodes) out) out e
+
+  -- the buffer is as long as it was
+  pub table-length : length (tableOf net rounds out) ≡ length out
+  unfolding tableOf
+  table-length =
+      eq-elim (λ l. length l ≡ length out) (tableNumber net rounds (length out)) 0 (overBelow (λ p. getD (lockstepOf net rounds) p 0) (net .nodes) out) out (λ _. length-over (λ p. getD (lockstepOf net rounds) p 0) (net .nodes) out) (λ _. refl)
+
+  -- the entry of a node is its value after so many rounds
+  pub table-at : tableNumber net rounds (length out) ≡ 0 → (p : ℕ) → p < net .nodes → getD (tableOf net rounds out) p 0 ≡ getD (lockstepOf net rounds) p 0
+  table-at e p h =
+      ap (λ l. getD l p 0) (accepted-written e)
+      ∙ over-below (λ q. getD (lockstepOf net rounds) q 0) (net .nodes) out p 0 h (omega (arith, accepted net rounds (length out) e .has-room))
+
+  -- "Table entries past the node count are not written"
+  pub table-past : (p : ℕ) → net .nodes ≤ p → getD (tableOf net rounds out) p 0 ≡ getD out p 0
+  unfolding tableOf
+  table-past p h =
+      eq-elim (λ l. getD l p 0 ≡ getD out p 0) (tableNumber net rounds (length out)) 0 (overBelow (λ q. getD (lockstepOf net rounds) q 0) (net .nodes) out) out (λ _. over-above (λ q. getD (lockstepOf net rounds) q 0) (net .nodes) out p 0 h) (λ _. refl)
+
+-- a table of 0 rounds has the start values
+pub table-of-none : (net : Network) (out : List ℕ) → tableNumber net 0 (length out) ≡ 0 → tableOf net 0 out ≡ overBelow (λ p. getD (net .starts) p 0) (net .nodes) out
+table-of-none net out e =
+    accepted-written net 0 out e ∙ ap (λ xs. overBelow (λ p. getD xs p 0) (net .nodes) out) (lockstep-start net)
