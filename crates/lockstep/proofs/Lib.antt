@@ -1,3 +1,4 @@
+pub mod Lowest
 pub mod Members
 pub mod Over
 pub mod Rounds

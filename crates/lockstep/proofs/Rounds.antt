@@ -8,7 +8,6 @@ use mathlib.Core.Path.{_≡_, refl, sym, _∙_, ap}
 use mathlib.Core.Bool.{true}
 use mathlib.Core.List.{List}
 use lib.ListN.{length, getD}
-use Rattle.laws.specs.Below.{overBelow}
 use Rattle.laws.proofs.Below.{length-over, over-below, over-above}
 use Rattle.nodeset.specs.Marks.{member}
 use Rattle.network.specs.declared.Network.{Network}
@@ -25,42 +24,46 @@ unfolding meanOf nextBy
 mean-is-next sets xs p = refl
 
 module _ (rule : ℕ → List ℕ → ℕ) (sets : List ℕ) (nodes : ℕ) (xs : List ℕ) where
-  pub rounds-start : roundsBy rule sets nodes 0 xs ≡ xs
+  -- the values after k rounds from xs
+  abbrev after : ℕ → List ℕ
+  after k = roundsBy rule sets nodes k xs
+
+  pub rounds-start : after 0 ≡ xs
   unfolding roundsBy
   rounds-start = refl
 
   -- one turn of the loop over the rounds, and its end; the counter is written `k + 1`, as the code has it
-  pub rounds-more : (k : ℕ) (ys zs : List ℕ) → ys ≡ roundsBy rule sets nodes k xs → zs ≡ roundBy rule sets nodes ys → zs ≡ roundsBy rule sets nodes (k + 1) xs
+  pub rounds-more : (k : ℕ) (ys zs : List ℕ) → ys ≡ after k → zs ≡ roundBy rule sets nodes ys → zs ≡ after (k + 1)
   unfolding roundsBy
   rounds-more k ys zs before turn = rw add-one (turn ∙ ap (roundBy rule sets nodes) before)
 
-  pub rounds-end : (n k : ℕ) (ys : List ℕ) → ys ≡ roundsBy rule sets nodes k xs → k ≤ n → n ≤ k → ys ≡ roundsBy rule sets nodes n xs
-  rounds-end n k ys held a b = held ∙ ap (λ j. roundsBy rule sets nodes j xs) (le-antisymm a b)
+  pub rounds-end : (n k : ℕ) (ys : List ℕ) → ys ≡ after k → k ≤ n → n ≤ k → ys ≡ after n
+  rounds-end n k ys held a b = held ∙ ap (λ j. after j) (le-antisymm a b)
 
-  pub length-rounds : (k : ℕ) → length (roundsBy rule sets nodes k xs) ≡ length xs
+  pub length-rounds : (k : ℕ) → length (after k) ≡ length xs
   unfolding roundsBy roundBy
   length-rounds zero = refl
   length-rounds (suc k) =
-      length-over (nextBy rule sets (roundsBy rule sets nodes k xs)) nodes (roundsBy rule sets nodes k xs) ∙ length-rounds k
+      length-over (nextBy rule sets (after k)) nodes (after k) ∙ length-rounds k
 
   -- a node's value after one round more
-  pub rounds-at : (k p : ℕ) → p < nodes → p < length xs → getD (roundsBy rule sets nodes (suc k) xs) p 0 ≡ nextBy rule sets (roundsBy rule sets nodes k xs) p
+  pub rounds-at : (k p : ℕ) → p < nodes → p < length xs → getD (after (suc k)) p 0 ≡ nextBy rule sets (after k) p
   unfolding roundsBy roundBy
   rounds-at k p below room =
-      over-below (nextBy rule sets (roundsBy rule sets nodes k xs)) nodes (roundsBy rule sets nodes k xs) p 0 below (rw (length-rounds k) room)
+      over-below (nextBy rule sets (after k)) nodes (after k) p 0 below (rw (length-rounds k) room)
 
   -- the entries past the nodes stay as they were
-  pub rounds-past : (k p : ℕ) → nodes ≤ p → getD (roundsBy rule sets nodes k xs) p 0 ≡ getD xs p 0
+  pub rounds-past : (k p : ℕ) → nodes ≤ p → getD (after k) p 0 ≡ getD xs p 0
   unfolding roundsBy roundBy
   rounds-past zero p past = refl
   rounds-past (suc k) p past =
-      over-above (nextBy rule sets (roundsBy rule sets nodes k xs)) nodes (roundsBy rule sets nodes k xs) p 0 past ∙ rounds-past k p past
+      over-above (nextBy rule sets (after k)) nodes (after k) p 0 past ∙ rounds-past k p past
 
   -- where what was heard agrees with the last round's values on p's members, the rule gives p's value of the next round
-  pub heard-gives-next : (k p : ℕ) (heard : ℕ → ℕ) → p < nodes → p < length xs → ((q : ℕ) → member (getD sets p 0) q ≡ true → heard q ≡ getD (roundsBy rule sets nodes k xs) q 0) → rule (getD (roundsBy rule sets nodes k xs) p 0) (valuesIn heard (getD sets p 0)) ≡ getD (roundsBy rule sets nodes (suc k) xs) p 0
+  pub heard-gives-next : (k p : ℕ) (heard : ℕ → ℕ) → p < nodes → p < length xs → ((q : ℕ) → member (getD sets p 0) q ≡ true → heard q ≡ getD (after k) q 0) → rule (getD (after k) p 0) (valuesIn heard (getD sets p 0)) ≡ getD (after (suc k)) p 0
   unfolding nextBy
   heard-gives-next k p heard below room agree =
-      ap (rule (getD (roundsBy rule sets nodes k xs) p 0)) (values-same heard (λ q. getD (roundsBy rule sets nodes k xs) q 0) (getD sets p 0) agree)
+      ap (rule (getD (after k) p 0)) (values-same heard (λ q. getD (after k) q 0) (getD sets p 0) agree)
       ∙ sym (rounds-at k p below room)
 
 -- from u16 values every round gives u16 values

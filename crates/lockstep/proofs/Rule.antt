@@ -1,9 +1,9 @@
 -- The rule as the code computes it: what was heard from the members is summed over the set's marks, and the marks are counted.
 -- Assumes nothing.
-use Prim.Native.Nat.{ℕ, zero, suc, _+_, _*_, _<_, _≤_}
+use Prim.Native.Nat.{ℕ, _+_, _*_, _<_, _≤_}
 use native.Mathlib.Nat.{div-lt-iff-lt-mul}
 use native.Mathlib.Omega.{arith}
-use mathlib.Core.Path.{_≡_, refl, sym, _∙_, ap, ap₂}
+use mathlib.Core.Path.{_≡_, ap₂}
 use mathlib.Core.List.{List}
 use lib.ListN.{length, getD}
 use Rattle.nodeset.specs.Marks.{sizeOf, sumIn}

@@ -2,18 +2,17 @@
 -- Assumes nothing.
 use Prim.Native.Nat.{ℕ, _<_, _≤_}
 use native.Mathlib.Omega.{arith}
-use mathlib.Core.Path.{_≡_, refl, sym, _∙_, ap}
-use mathlib.Core.Bool.{Bool, true, false}
+use mathlib.Core.Path.{_≡_, refl, _∙_, ap}
+use mathlib.Core.Bool.{true}
 use mathlib.Core.List.{List}
 use borrow.Author.Tests.{leb-true}
-use lib.Dec.{leb}
 use lib.ListN.{length, getD}
-use Rattle.laws.specs.Choice.{ifB, ifLt, ifEq, both}
-use Rattle.laws.specs.Below.{allBelow, overBelow}
+use Rattle.laws.specs.Choice.{ifLt}
+use Rattle.laws.specs.Below.{overBelow}
 use Rattle.laws.proofs.Choice.{b-elim, lt-elim, eq-elim, ifEq-yes, ifEq-no, both-left, both-right}
 use Rattle.laws.proofs.Below.{length-over, over-below, over-above}
 use Rattle.network.specs.declared.Network.{Network}
-use Rattle.network.specs.Valid.{withinLimits, nodeFits, linkStands, agrees, validNetwork}
+use Rattle.network.specs.Valid.{withinLimits, validNetwork}
 use Rattle.lockstep.specs.Rounds.{lockstepOf}
 use Rattle.lockstep.specs.Table.{tableNumber, tableOf}
 use Rattle.lockstep.proofs.Rounds.{lockstep-start}
@@ -39,35 +38,39 @@ accepted net rounds room =
     (λ _ e. absurd (omega arith))
 
 module _ (net : Network) (rounds : ℕ) (out : List ℕ) where
+  abbrev number : ℕ
+  number = tableNumber net rounds (length out)
+
+  abbrev value : ℕ → ℕ
+  value p = getD (lockstepOf net rounds) p 0
+
   -- a refused table is not written
-  pub refused-unwritten : 0 < tableNumber net rounds (length out) → tableOf net rounds out ≡ out
+  pub refused-unwritten : 0 < number → tableOf net rounds out ≡ out
   unfolding tableOf
-  refused-unwritten h =
-      ifEq-no (tableNumber net rounds (length out)) 0 (overBelow (λ p. getD (lockstepOf net rounds) p 0) (net .nodes) out) out (λ e. omega arith)
+  refused-unwritten h = ifEq-no number 0 (overBelow value (net .nodes) out) out (λ e. omega arith)
 
   -- an accepted one has the nodes' values of the asked rounds
-  pub accepted-written : tableNumber net rounds (length out) ≡ 0 → tableOf net rounds out ≡ overBelow (λ p. getD (lockstepOf net rounds) p 0) (net .nodes) out
+  pub accepted-written : number ≡ 0 → tableOf net rounds out ≡ overBelow value (net .nodes) out
   unfolding tableOf
-  accepted-written e =
-      ifEq-yes (tableNumber net rounds (length out)) 0 (overBelow (λ p. getD (lockstepOf net rounds) p 0) (net .nodes) out) out e
+  accepted-written e = ifEq-yes number 0 (overBelow value (net .nodes) out) out e
 
   -- the buffer is as long as it was
   pub table-length : length (tableOf net rounds out) ≡ length out
   unfolding tableOf
   table-length =
-      eq-elim (λ l. length l ≡ length out) (tableNumber net rounds (length out)) 0 (overBelow (λ p. getD (lockstepOf net rounds) p 0) (net .nodes) out) out (λ _. length-over (λ p. getD (lockstepOf net rounds) p 0) (net .nodes) out) (λ _. refl)
+      eq-elim (λ l. length l ≡ length out) number 0 (overBelow value (net .nodes) out) out (λ _. length-over value (net .nodes) out) (λ _. refl)
 
   -- the entry of a node is its value after so many rounds
-  pub table-at : tableNumber net rounds (length out) ≡ 0 → (p : ℕ) → p < net .nodes → getD (tableOf net rounds out) p 0 ≡ getD (lockstepOf net rounds) p 0
+  pub table-at : number ≡ 0 → (p : ℕ) → p < net .nodes → getD (tableOf net rounds out) p 0 ≡ value p
   table-at e p h =
       ap (λ l. getD l p 0) (accepted-written e)
-      ∙ over-below (λ q. getD (lockstepOf net rounds) q 0) (net .nodes) out p 0 h (omega (arith, accepted net rounds (length out) e .has-room))
+      ∙ over-below value (net .nodes) out p 0 h (omega (arith, accepted net rounds (length out) e .has-room))
 
   -- "Table entries past the node count are not written"
   pub table-past : (p : ℕ) → net .nodes ≤ p → getD (tableOf net rounds out) p 0 ≡ getD out p 0
   unfolding tableOf
   table-past p h =
-      eq-elim (λ l. getD l p 0 ≡ getD out p 0) (tableNumber net rounds (length out)) 0 (overBelow (λ q. getD (lockstepOf net rounds) q 0) (net .nodes) out) out (λ _. over-above (λ q. getD (lockstepOf net rounds) q 0) (net .nodes) out p 0 h) (λ _. refl)
+      eq-elim (λ l. getD l p 0 ≡ getD out p 0) number 0 (overBelow value (net .nodes) out) out (λ _. over-above value (net .nodes) out p 0 h) (λ _. refl)
 
 -- a table of 0 rounds has the start values
 pub table-of-none : (net : Network) (out : List ℕ) → tableNumber net 0 (length out) ≡ 0 → tableOf net 0 out ≡ overBelow (λ p. getD (net .starts) p 0) (net .nodes) out

@@ -3,7 +3,6 @@
 use Prim.Native.Nat.{ℕ, zero, suc}
 use mathlib.Core.Bool.{Bool}
 use mathlib.Core.List.{List, [], _∷_, _++_, map}
-use lib.ListN.{getD}
 use Rattle.laws.specs.Choice.{ifB}
 use Rattle.nodeset.specs.Marks.{member}
 

@@ -5,7 +5,7 @@ ghost use mathlib.Core.Path.{_≡_};
 ghost use Prim.Native.Nat.{_+_, _*_, _≤_, _<_};
 ghost use lib.ListN.{length, getD};
 ghost use Rattle.laws.specs.Below.{overBelow};
-ghost use Rattle.nodeset.specs.Marks.{sizeOf, sumIn};
+ghost use Rattle.nodeset.specs.Marks.{removed, sizeOf, lowestOf, sumIn};
 ghost use Rattle.lockstep.specs.Rule.{shareOf, ruleOf, meanOf};
 ghost use Rattle.lockstep.specs.Rounds.{roundBy, roundsBy};
 ghost use Rattle.lockstep.specs.Table.{tableNumber, tableOf};
@@ -19,13 +19,14 @@ const MORE_ROUNDS_THAN_PLANNED: u8 = 20;
 
 const BUFFER_TOO_SHORT: u8 = 21;
 
+// A value as a term of a sum: at most 65,535.
 fn wide(value: u16) -> u32
     ensures { λ r. ⌜ (r ≡ value) × (r ≤ 65535) ⌝ }
 {
     value as u32
 }
 
-// One share of the sum: the only place that divides.
+// One share of the sum: the rule's only division. At most 65,535 for each of the count keeps it a u16.
 fn share(sum: u32, count: u32) -> u16
     requires { ⌜ (0 < count) × (count ≤ 65) × (sum ≤ 65535 * count) ⌝ }
     ensures { λ r. ⌜ r ≡ shareOf sum count ⌝ }
@@ -33,7 +34,20 @@ fn share(sum: u32, count: u32) -> u16
     (sum / count) as u16
 }
 
-// The sum of what was heard from the members of the set: "its size is a count of them" bounds it.
+// The set without its lowest member: one mask, and no look at the member.
+fn without_lowest(set: NodeSet) -> NodeSet
+    ensures { λ r. ⌜ r .marks ≡ removed (set .marks) (lowestOf (set .marks)) ⌝ }
+{
+    let marks = set.marks;
+    if marks == 0 {
+        return set;
+    }
+    NodeSet {
+        marks: marks & (marks - 1),
+    }
+}
+
+// The sum of what was heard from the members of the set: at most 65,535 for each.
 fn sum_in(set: NodeSet, heard: &[u16; 64]) -> u32
     ensures { λ r. ⌜ (r ≡ sumIn (λ q. getD (now (heard .entry)) q 0) (set .marks)) × (r ≤ 65535 * sizeOf (set .marks)) ⌝ }
 {
@@ -42,7 +56,7 @@ fn sum_in(set: NodeSet, heard: &[u16; 64]) -> u32
     while 0 < rest.marks {
         let q = rest.lowest() as usize;
         sum += wide(heard[q]);
-        let others = rest.remove(q);
+        let others = without_lowest(rest);
         rest = others;
     }
     sum
@@ -72,8 +86,8 @@ fn round(nodes: usize, sets: &[u64; 64], values: &[u16; 64]) -> [u16; 64]
     next
 }
 
-// The values after so many rounds.
-fn run(nodes: usize, sets: &[u64; 64], starts: &[u16; 64], rounds: u16) -> [u16; 64]
+// The nodes' values after so many rounds.
+fn values_after(nodes: usize, sets: &[u64; 64], starts: &[u16; 64], rounds: u16) -> [u16; 64]
     requires { ⌜ nodes ≤ 64 ⌝ }
     ensures { λ r. ⌜ r ≡ roundsBy ruleOf (now (sets .entry)) nodes rounds (now (starts .entry)) ⌝ }
 {
@@ -92,10 +106,10 @@ fn fill(values: &[u16; 64], nodes: usize, out: &mut [u16])
     requires { ⌜ (nodes ≤ 64) × (nodes ≤ length (now out)) ⌝ }
     ensures { λ _. ⌜ now (out .exit) ≡ overBelow (λ p. getD (now (values .entry)) p 0) nodes (now (out .entry)) ⌝ }
 {
-    let mut p = 0;
-    while p < nodes {
-        out[p] = values[p];
-        p += 1;
+    let mut entry = 0;
+    while entry < nodes {
+        out[entry] = values[entry];
+        entry += 1;
     }
 }
 
@@ -128,7 +142,7 @@ pub fn table(net: Network, rounds: u16, out: &mut [u16]) -> u8
     if ACCEPTED < number {
         return number;
     }
-    let values = run(nodes, &neighbours, &starts, rounds);
+    let values = values_after(nodes, &neighbours, &starts, rounds);
     fill(&values, nodes, out);
     number
 }

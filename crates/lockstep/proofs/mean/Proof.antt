@@ -1,10 +1,7 @@
 -- `mean`: at most 65,535 for the node itself and for each of at most 64 neighbours fits a u32, and the share of each fits a u16.
 -- Assumes nothing.
 use native.Mathlib.Omega.{arith}
-use mathlib.Core.Path.{sym, _∙_, ap₂}
 use borrow.Author.Needs.{needs}
-use Prim.Native.Nat.{_+_}
-use Rattle.lockstep.specs.Rule.{shareOf}
 use Rattle.lockstep.proofs.Members.{size-at-most-64}
 use Rattle.lockstep.proofs.Rule.{mean-by-marks}
 use Rattle.lockstep.proofs.mean.Statement.{statement}

@@ -1,12 +1,11 @@
 -- `round`: after each turn one more node has its new value. All means are taken over the values before the round, which no turn changes.
 -- Assumes nothing.
-use Prim.Native.Nat.{ℕ, _-_, _<_, _≤_}
+use Prim.Native.Nat.{_-_, _≤_}
 use native.Mathlib.Omega.{arith}
-use mathlib.Core.Path.{_≡_, refl, sym, _∙_, ap}
+use mathlib.Core.Path.{_≡_, sym, _∙_}
 use borrow.Author.Needs.{needs}
-use lib.ListN.{length, getD}
 use Rattle.laws.specs.Below.{overBelow}
-use Rattle.laws.proofs.Below.{over-start, over-more, length-over}
+use Rattle.laws.proofs.Below.{over-start, over-more}
 use Rattle.lockstep.specs.Rule.{ruleOf}
 use Rattle.lockstep.specs.Rounds.{nextBy, roundBy}
 use Rattle.lockstep.proofs.Over.{over-end}

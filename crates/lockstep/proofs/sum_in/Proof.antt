@@ -1,13 +1,13 @@
 -- `sum_in`: each turn takes the lowest member out of the set and its value into the sum, so what is summed and what is left to sum stay the sum
 -- over the whole set; and so for the bound of 65,535 a member. The walk ends since a set without one of its members is a smaller number.
 -- Assumes nothing.
-use Prim.Native.Nat.{ℕ, _+_, _*_, _<_, _≤_, _^_}
+use Prim.Native.Nat.{ℕ, _+_, _*_, _<_, _≤_}
 use native.Mathlib.Omega.{arith}
-use mathlib.Core.Path.{_≡_, sym, _∙_, ap}
+use mathlib.Core.Path.{_≡_, ap}
 use mathlib.Core.Bool.{true}
 use borrow.Author.Needs.{needs}
 use lib.ListN.{getD}
-use Rattle.nodeset.specs.Marks.{member, removed, sizeOf, lowestOf, sumIn}
+use Rattle.nodeset.specs.Marks.{member, removed, sizeOf, sumIn}
 use Rattle.nodeset.proofs.Marks.{lowest-is-in, lowest-below, removed-less}
 use Rattle.nodeset.proofs.Members.{sum-in-rest, sum-in-empty, size-rest}
 use Rattle.lockstep.proofs.Members.{size-at-most-64}
@@ -39,19 +39,22 @@ add-sum c =
     let rest = c .before .before .before .before .before .loop .rest .marks in
     omega (arith, size-rest rest (c .before .before .lowest .result) (is-in (c .before .before)), size-at-most-64 (c .before .before .before .before .before .before .args .set .marks))
 
+-- what is left after the turn is the set without that member
+taken : (c : tie.After-without-lowest Inv-loop μ-loop) → c .without-lowest .result .marks ≡ removed (c .before .before .before .before .before .before .loop .rest .marks) (c .before .before .before .lowest .result)
+taken c = rw (c .before .before .before .lowest .ensures) (c .without-lowest .ensures)
+
 loop-less : tie.Need-loop-less Inv-loop μ-loop
 loop-less c =
     let rest = c .before .before .before .before .before .before .loop .rest .marks in
-    rw (c .remove .ensures) (removed-less rest (c .before .before .before .lowest .result) (is-in (c .before .before .before)))
+    rw (taken c) (removed-less rest (c .before .before .before .lowest .result) (is-in (c .before .before .before)))
 
 loop-again : tie.Need-loop-again Inv-loop μ-loop
 loop-again c =
     let f : ℕ → ℕ = λ q. getD (c .before .before .before .before .before .before .before .args .heard .now) q 0 in
     let rest = c .before .before .before .before .before .before .loop .rest .marks in
     let q = c .before .before .before .lowest .result in
-    let out : c .remove .result .marks ≡ removed rest q = c .remove .ensures in
     let i : member rest q ≡ true = is-in (c .before .before .before) in
-    (omega (arith, ap (sumIn f) out, sum-in-rest f rest q i), omega (arith, ap sizeOf out, size-rest rest q i))
+    (omega (arith, ap (sumIn f) (taken c), sum-in-rest f rest q i), omega (arith, ap sizeOf (taken c), size-rest rest q i))
 
 returns : tie.Need-returns Inv-loop μ-loop
 returns c =

@@ -1,10 +1,8 @@
 -- `table`: a refused table returns before anything is written. An accepted one has a valid network, so that there are at most 64 nodes, and a
 -- buffer with room for them; what is written is the run of the asked rounds.
 -- Assumes nothing.
-use Prim.Native.Nat.{ℕ}
 use native.Mathlib.Omega.{arith}
 use mathlib.Core.Path.{_≡_, sym, _∙_, ap}
-use mathlib.Core.List.{List}
 use borrow.Author.Needs.{needs}
 use lib.ListN.{length, getD}
 use Rattle.laws.specs.Below.{overBelow}
@@ -28,8 +26,8 @@ rests-on c =
     let start = c .before .before .before .before .before .args in
     accepted (start .net) (start .rounds) (length (start .out .now)) (is-accepted c)
 
-run-requires : tie.Need-run-requires
-run-requires c κs = valid-at-most-64 (c .before .before .before .before .before .before .before .args .net) (rests-on (c .before .before) .valid)
+values-after-requires : tie.Need-values-after-requires
+values-after-requires c κs = valid-at-most-64 (c .before .before .before .before .before .before .before .args .net) (rests-on (c .before .before) .valid)
 
 fill-requires : tie.Need-fill-requires
 fill-requires c κs =
@@ -40,7 +38,7 @@ returns-2 : tie.Need-returns-2
 unfolding lockstepOf
 returns-2 c =
     let start = c .before .before .before .before .before .before .before .before .before .before .before .before .before .args in
-    let met : c .before .before .before .before .before .run .result ≡ lockstepOf (start .net) (start .rounds) = c .before .before .before .before .before .run .ensures in (
+    let met : c .before .before .before .before .before .values-after .result ≡ lockstepOf (start .net) (start .rounds) = c .before .before .before .before .before .values-after .ensures in (
       c .before .before .before .before .before .before .before .before .before .answer .ensures,
       c .before .before .fill .ensures
           ∙ ap (λ xs. overBelow (λ p. getD xs p 0) (start .net .nodes) (start .out .now)) met
@@ -49,4 +47,4 @@ returns-2 c =
 
 pub table-spec : {M : Type 1} → statement M
 table-spec =
-    tie.close (tie.spec (λ c κs. search needs) returns run-requires fill-requires (λ c. search needs) returns-2)
+    tie.close (tie.spec (λ c κs. search needs) returns values-after-requires fill-requires (λ c. search needs) returns-2)

@@ -1,14 +1,14 @@
--- `run`: after k turns the values are those of k rounds.
+-- `values_after`: after k turns the values are those of k rounds.
 -- Assumes nothing.
-use Prim.Native.Nat.{ℕ, _-_, _≤_}
+use Prim.Native.Nat.{_-_, _≤_}
 use native.Mathlib.Omega.{arith}
 use mathlib.Core.Path.{_≡_, sym}
 use borrow.Author.Needs.{needs}
 use Rattle.lockstep.specs.Rule.{ruleOf}
 use Rattle.lockstep.specs.Rounds.{roundsBy}
 use Rattle.lockstep.proofs.Rounds.{rounds-start, rounds-more, rounds-end}
-use Rattle.lockstep.proofs.run.Statement.{statement}
-use Rattle.lockstep.proofs.run.Tie as tie
+use Rattle.lockstep.proofs.values_after.Statement.{statement}
+use Rattle.lockstep.proofs.values_after.Tie as tie
 
 abbrev Inv-loop : tie.InvT-loop
 Inv-loop nodes sets starts rounds values₀ k₀ values k =
@@ -34,7 +34,7 @@ returns c =
     let at = c .before .loop in
     rounds-end ruleOf (start .sets .now) (start .nodes) (start .starts .now) (start .rounds) (at .k) (at .values) (at .inv .1) (at .inv .0) (c .loop-test .left)
 
-pub run-spec : {M : Type 1} → statement M
-run-spec =
+pub values-after-spec : {M : Type 1} → statement M
+values-after-spec =
     tie.close
     (tie.spec Inv-loop μ-loop loop-holds (λ c κs. search needs) (λ c. search needs) (λ c. search needs) loop-again returns)
