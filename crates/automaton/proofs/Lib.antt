@@ -1,3 +1,4 @@
+pub mod Board
 pub mod Chains
 pub mod Demand
 pub mod Effects

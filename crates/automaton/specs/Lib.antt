@@ -8,4 +8,3 @@ pub mod Lockstep
 pub mod Needs
 pub mod Network
 pub mod Run
-pub mod Trials

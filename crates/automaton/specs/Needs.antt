@@ -32,9 +32,8 @@ module _ {Value : Type 0} (net : Net Value) where
   -- "p knows, up delivered from every child, preferred word delivered to p on each of its preferred links"
   unfoldable pub upNeeds : ℕ → List Need
   upNeeds p =
-      has (know p)
-      ∷ (map (λ c. has (upDelivered c)) (children net p)
-      ++ map (λ q. has (preferredDelivered q p)) (preferredNeighbours net p))
+      has (know p) ∷ map (λ c. has (upDelivered c)) (children net p)
+      ++ map (λ q. has (preferredDelivered q p)) (preferredNeighbours net p)
 
   unfoldable pub needsOf : Act → List Need
   -- 16 output: "i ≤ rounds; inputs of p at least i − 1" (the first of the two is answer 15)
@@ -42,11 +41,11 @@ module _ {Value : Type 0} (net : Net Value) where
   -- 17 packet sent: "p has output"
   needsOf (packetSent p q) = has (output p) ∷ []
   -- 18 packet delivered: "sent; a packet is first on p to q"
-  needsOf (packetDelivered p q) = has (packetSent p q) ∷ (packetFirst p q ∷ [])
+  needsOf (packetDelivered p q) = has (packetSent p q) ∷ packetFirst p q ∷ []
   -- 19 ack sent: "packet q to p delivered"
   needsOf (ackSent p q) = has (packetDelivered q p) ∷ []
   -- 20 ack delivered: "sent; an ack is first on p to q"
-  needsOf (ackDelivered p q) = has (ackSent p q) ∷ (ackFirst p q ∷ [])
+  needsOf (ackDelivered p q) = has (ackSent p q) ∷ ackFirst p q ∷ []
   -- 21 ok: "output; ack delivered from every neighbour"
   needsOf (ok p) = has (output p) ∷ map (λ q. has (ackDelivered q p)) (neighbours net p)
   -- 22, 23 subtree ok sent to parent; delivered: "p has ok, and subtree ok delivered from every child; sent"

@@ -16,8 +16,8 @@ module _ {Value : Type 0} where
   -- a message sent joins the queue from p to q at its end, and a delivery takes the first away
   unfoldable pub onQueue : Global Value → Act → ℕ → ℕ → List (Msg Value) → List (Msg Value)
   onQueue s a p q =
-      ifB (same a (packetSent p q)) (λ l. l ++ (packet (s .value p) ∷ []))
-      (ifB (same a (ackSent p q)) (λ l. l ++ (ack ∷ []))
+      ifB (same a (packetSent p q)) (λ l. l ++ packet (s .value p) ∷ [])
+      (ifB (same a (ackSent p q)) (λ l. l ++ ack ∷ [])
       (ifB (same a (packetDelivered p q)) tail (ifB (same a (ackDelivered p q)) tail (λ l. l))))
 
   -- the value that the first message carries; where that is no packet, the slot stays as it was
