@@ -2,12 +2,10 @@
 -- the middle of a run that goes on to its right end: they are refused, and the values at the end are those of lockstep. The edits of
 -- must-fail/ build each error in, and then the trial ends with another value.
 -- Assumes nothing.
-use Prim.Native.Nat.{ℕ, suc, _+_, _/_}
+use Prim.Native.Nat.{ℕ, suc}
 use mathlib.Core.Path.{_≡_, refl}
-use mathlib.Core.Bool.{Bool, true, false}
+use mathlib.Core.Bool.{true}
 use mathlib.Core.List.{List, [], _∷_, _++_, map}
-use lib.Dec.{eqb}
-use lib.ListN.{length, getD}
 use Rattle.laws.specs.Choice.{ifB, ifEq, both}
 use Rattle.automaton.specs.Lists.{every, pickBelow}
 use Rattle.automaton.specs.Actions.{Act, same, bodyOf, output, packetSent, packetDelivered, ackSent, ackDelivered, ok}
@@ -20,59 +18,7 @@ use Rattle.automaton.specs.Global.{Global, packet, parity, begin}
 use Rattle.automaton.specs.Answer.{sends, must, packetAtFront, ackAtFront, met, fits, known, legal, next, inTime, enabled, room, answer}
 use Rattle.automaton.specs.Run.{onCount, onQueue, carried, onSlot, heard, onValue, after, step, run}
 use Rattle.automaton.specs.Lockstep.{lockstep}
-
--- ---- plans
-
-total : List ℕ → ℕ
-total [] = 0
-total (x ∷ xs) = x + total xs
-
--- "(own value + the values in the slots of i's parity from each neighbour) divided by (1 + number of neighbours), the remainder dropped"
-mean : ℕ → List ℕ → ℕ
-unfolding total
-mean own others = (own + total others) / (1 + length others)
-
--- a link's ends a and b, and its flag, 0 ordinary or 1 preferred
-abbrev Link : Type 0
-Link = ℕ × ℕ × ℕ
-
--- a link of the list has the ends p and q, whichever way round, and passes the test
-joins : (Link → Bool) → List Link → ℕ → ℕ → Bool
-unfolding ifB both
-joins t [] p q = false
-joins t (l ∷ ls) p q =
-    ifB (both (t l) (ifB (both (eqb (l .0) p) (eqb (l .1) q)) true (both (eqb (l .0) q) (eqb (l .1) p)))) true
-    (joins t ls p q)
-
--- a plan by its rounds, its nodes (parent, start value) and its links
-plan : ℕ → List (ℕ × ℕ) → List Link → Net ℕ
-unfolding joins mean
-plan rounds nodes links =
-    record {
-      n = length nodes;
-      rounds = rounds;
-      parent = λ p. (getD nodes p (p, 0)) .0;
-      link = joins (λ l. true) links;
-      preferred = joins (λ l. eqb (l .2) 1) links;
-      start = λ p. (getD nodes p (p, 0)) .1;
-      unheard = 0;
-      rule = mean;
-    }
-
--- "Plan T: two roots, values 100 and 301, one preferred link"
-pub planT : ℕ → Net ℕ
-unfolding plan
-planT rounds = plan rounds ((0, 100) ∷ (1, 301) ∷ []) ((0, 1, 1) ∷ [])
-
--- "Plan P: path 0-1-2, one cluster, root 1, values 0, 10, 5"
-pub planP : ℕ → Net ℕ
-unfolding plan
-planP rounds = plan rounds ((1, 0) ∷ (1, 10) ∷ (1, 5) ∷ []) ((0, 1, 0) ∷ (1, 2, 0) ∷ [])
-
--- one cluster of two: 0 its root, 1 a leaf with no preferred link
-pub planC : ℕ → Net ℕ
-unfolding plan
-planC rounds = plan rounds ((0, 100) ∷ (0, 301) ∷ []) ((0, 1, 0) ∷ [])
+use Rattle.automaton.proofs.Plans.{planT, planP, planC}
 
 -- ---- what a run comes to
 

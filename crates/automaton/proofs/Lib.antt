@@ -5,5 +5,8 @@ pub mod Effects
 pub mod Lines
 pub mod Lists
 pub mod Order
+pub mod Plans
+pub mod Room
 pub mod Runs
+pub mod Trees
 pub mod Values

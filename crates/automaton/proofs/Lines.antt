@@ -44,7 +44,7 @@ module _ {Value : Type 0} where
         delivered = w .delivered;
         acksSent = w .acksSent;
         acksDelivered = w .acksDelivered;
-        queue = w .queue ++ (packet v ∷ []);
+        queue = w .queue ++ packet v ∷ [];
       }
 
   abbrev packetOut : Way Value → Way Value
@@ -64,7 +64,7 @@ module _ {Value : Type 0} where
         delivered = w .delivered;
         acksSent = suc (w .acksSent);
         acksDelivered = w .acksDelivered;
-        queue = w .queue ++ (ack ∷ []);
+        queue = w .queue ++ ack ∷ [];
       }
 
   abbrev ackOut : Way Value → Way Value
@@ -77,14 +77,22 @@ module _ {Value : Type 0} where
         queue = tail (w .queue);
       }
 
-  pub traffic : (P : Way Value → Type 0) (net : Net Value) (s : Global Value) (p q : ℕ) (a : Act) → (a ≡ packetSent p q → P (packetIn (s .value p) (wayOf s p q))) → (a ≡ packetDelivered p q → P (packetOut (wayOf s p q))) → (a ≡ ackSent p q → P (ackIn (wayOf s p q))) → (a ≡ ackDelivered p q → P (ackOut (wayOf s p q))) → P (wayOf s p q) → P (wayOf (after net s a) p q)
+  -- what is to be shown of a direction after an action, by what the action does there
+  pub traffic :
+      (P : Way Value → Type 0) (net : Net Value) (s : Global Value) (p q : ℕ) (a : Act)
+      → (a ≡ packetSent p q → P (packetIn (s .value p) (wayOf s p q))) → (a ≡ packetDelivered p q → P (packetOut (wayOf s p q)))
+      → (a ≡ ackSent p q → P (ackIn (wayOf s p q))) → (a ≡ ackDelivered p q → P (ackOut (wayOf s p q))) → P (wayOf s p q)
+      → P (wayOf (after net s a) p q)
   unfolding after onCount onQueue same decided ifB
   traffic P net s p q a packetJoins packetLeaves ackJoins ackLeaves untouched =
-      same-elim (λ x. P (wayOf (after net s x) p q)) a (packetSent p q) (λ is. rw (same-self (packetSent p q)) (packetJoins is))
-      (λ e1. same-elim (λ x. P (wayOf (after net s x) p q)) a (packetDelivered p q) (λ is. rw (same-self (packetDelivered p q)) (packetLeaves is))
-      (λ e2. same-elim (λ x. P (wayOf (after net s x) p q)) a (ackSent p q) (λ is. rw (same-self (ackSent p q)) (ackJoins is))
-      (λ e3. same-elim (λ x. P (wayOf (after net s x) p q)) a (ackDelivered p q) (λ is. rw (same-self (ackDelivered p q)) (ackLeaves is))
+      same-elim Goal a (packetSent p q) (λ is. rw (same-self (packetSent p q)) (packetJoins is))
+      (λ e1. same-elim Goal a (packetDelivered p q) (λ is. rw (same-self (packetDelivered p q)) (packetLeaves is))
+      (λ e2. same-elim Goal a (ackSent p q) (λ is. rw (same-self (ackSent p q)) (ackJoins is))
+      (λ e3. same-elim Goal a (ackDelivered p q) (λ is. rw (same-self (ackDelivered p q)) (ackLeaves is))
       (λ e4. rw (e1, e2, e3, e4) untouched))))
+    where
+      Goal : Act → Type 0
+      Goal x = P (wayOf (after net s x) p q)
 
   -- ---- what waits
 
@@ -112,7 +120,10 @@ module _ {Value : Type 0} where
   waiting-append f [] r = omega arith
   waiting-append f (m ∷ l) r = omega (arith, waiting-append f l r)
 
-  front-packet : (f : Msg Value → ℕ) (k : ℕ) → ((v : Value) → f (packet v) ≡ k) → (l : List (Msg Value)) → packetAtFront l ≡ true → waiting f l ≡ k + waiting f (tail l)
+  -- taking the first away leaves one fewer of its sort
+  front-packet :
+      (f : Msg Value → ℕ) (k : ℕ) → ((v : Value) → f (packet v) ≡ k) → (l : List (Msg Value)) → packetAtFront l ≡ true
+      → waiting f l ≡ k + waiting f (tail l)
   unfolding packetAtFront waiting
   front-packet f k e [] t = absurd (false≢true t)
   front-packet f k e (packet v ∷ l) t = omega (arith, e v)

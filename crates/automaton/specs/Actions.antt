@@ -4,21 +4,30 @@ use Prim.Native.Nat.{ℕ}
 use native.Mathlib.Decide.{ℕ-discrete}
 use mathlib.Core.Bool.{Bool, true, false}
 
--- The numbers are node numbers. An action on a link goes from its first node to its second.
+-- The numbers are node numbers; with two of them, from the first to the second.
 pub data Act : Type 0 where
+  -- 16
   output : ℕ → Act
-  packetSent packetDelivered : ℕ → ℕ → Act
-  ackSent ackDelivered : ℕ → ℕ → Act
+  -- 17 to 20
+  packetSent packetDelivered ackSent ackDelivered : ℕ → ℕ → Act
+  -- 21
   ok : ℕ → Act
+  -- 22 and 23, from p to its parent
   subtreeOkSent subtreeOkDelivered : ℕ → Act
+  -- 24, by a root
   clusterOk : ℕ → Act
+  -- 25 and 26, to p from its parent
   downSent downDelivered : ℕ → Act
+  -- 27 and 28
   preferredSent preferredDelivered : ℕ → ℕ → Act
+  -- 29 and 30, from p to its parent
   upSent upDelivered : ℕ → Act
+  -- 31, by a root
   clusterGo : ℕ → Act
+  -- 32 and 33, to p from its parent
   subtreeGoSent subtreeGoDelivered : ℕ → Act
-  go : ℕ → Act
-  input : ℕ → Act
+  -- 34 and 35
+  go input : ℕ → Act
   deriving Discrete as Act-discrete
 
 unfoldable pub decided : {A : Type 0} → Dec A → Bool
@@ -30,7 +39,7 @@ unfoldable pub same : Act → Act → Bool
 unfolding decided ℕ-discrete
 same a b = decided (Act-discrete ℕ-discrete a b)
 
--- What a body has to name, by the refusals 13 and 14.
+-- What a body has to name, or the action is refused by 14.
 pub data Place : Type 0 where
   aNode aLink aPreferredLink aChild aRoot : Place
 

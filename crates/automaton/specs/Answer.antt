@@ -7,7 +7,8 @@ use lib.Dec.{ltb, leb}
 use lib.ListN.{length}
 use Rattle.laws.specs.Choice.{ifB, both}
 use Rattle.automaton.specs.Lists.{every}
-use Rattle.automaton.specs.Actions.{Act, output, packetSent, ackSent, same, Place, aNode, aLink, aPreferredLink, aChild, aRoot, bodyOf}
+use Rattle.automaton.specs.Actions.{Act, same, output, packetSent, ackSent}
+use Rattle.automaton.specs.Actions.{Place, aNode, aLink, aPreferredLink, aChild, aRoot, bodyOf}
 use Rattle.automaton.specs.Network.{Net, isRoot}
 use Rattle.automaton.specs.Needs.{Need, has, hadBefore, packetFirst, ackFirst, needsOf}
 use Rattle.automaton.specs.Global.{Msg, packet, ack, Global}
@@ -31,14 +32,14 @@ module _ {Value : Type 0} where
   ackAtFront (packet v ∷ l) = false
   ackAtFront (ack ∷ l) = true
 
-  -- the need holds at i
+  -- the need holds for i
   unfoldable pub met : Global Value → ℕ → Need → Bool
   met s i (has b) = leb i (s .count b)
   met s i (hadBefore b) = leb i (suc (s .count b))
   met s i (packetFirst p q) = packetAtFront (s .queue p q)
   met s i (ackFirst p q) = ackAtFront (s .queue p q)
 
-  -- what a place asks of the numbers: "no such link, link not preferred (27, 28), a root where a parent is needed, no root for 24, 31"
+  -- the numbers p and q name such a place
   unfoldable pub fits : Net Value → ℕ → ℕ → Place → Bool
   fits net p q aNode = true
   fits net p q aLink = net .link p q
@@ -46,11 +47,11 @@ module _ {Value : Type 0} where
   fits net p q aChild = not (isRoot net p)
   fits net p q aRoot = isRoot net p
 
-  -- not 13: "node number not below node count"
+  -- 13 where not: "node number not below node count"
   unfoldable pub known : Net Value → Act → Bool
   known net a = both (ltb (bodyOf a .p) (net .n)) (ltb (bodyOf a .q) (net .n))
 
-  -- not 14
+  -- 14 where not: "no such link, link not preferred (27, 28), a root where a parent is needed, no root for 24, 31"
   unfoldable pub legal : Net Value → Act → Bool
   legal net a = fits net (bodyOf a .p) (bodyOf a .q) (bodyOf a .place)
 
@@ -58,19 +59,22 @@ module _ {Value : Type 0} where
   unfoldable pub next : Global Value → Act → ℕ
   next s a = suc (s .count a)
 
-  -- not 15: "output after the last round"
+  -- 15 where not: "output after the last round"
   unfoldable pub inTime : Net Value → Global Value → Act → Bool
   inTime net s a = ifB (same a (output (bodyOf a .p))) (leb (next s a) (net .rounds)) true
 
-  -- not 16: "another need is missing"
+  -- 16 where not: "another need is missing"
   unfoldable pub enabled : Net Value → Global Value → Act → Bool
   enabled net s a = every (met s (next s a)) (needsOf net a)
 
-  -- not 18: "kind 17 or 19 with two messages already queued"
+  -- 18 where not: "kind 17 or 19 with two messages already queued"
   unfoldable pub room : Global Value → Act → Bool
   room s a = ifB (sends a (bodyOf a .p) (bodyOf a .q)) (ltb (length (s .queue (bodyOf a .p) (bodyOf a .q))) 2) true
 
   unfoldable pub answer : Net Value → Global Value → Act → ℕ
   answer net s a =
       must (known net a) 13
-      (must (legal net a) 14 (must (inTime net s a) 15 (must (enabled net s a) 16 (must (room s a) 18 0))))
+      (must (legal net a) 14
+      (must (inTime net s a) 15
+      (must (enabled net s a) 16
+      (must (room s a) 18 0))))

@@ -3,13 +3,15 @@
 use Prim.Native.Nat.{ℕ}
 use mathlib.Core.List.{List, [], _∷_, _++_, map}
 use Rattle.laws.specs.Choice.{ifB}
-use Rattle.automaton.specs.Actions
-use Rattle.automaton.specs.Actions.{Act, output, packetSent, packetDelivered, ackSent, ackDelivered, ok, subtreeOkSent, subtreeOkDelivered, clusterOk, downSent, downDelivered, preferredSent, preferredDelivered, upSent, upDelivered, clusterGo, subtreeGoSent, subtreeGoDelivered, go, input}
+use Rattle.automaton.specs.Actions.{Act, output, packetSent, packetDelivered, ackSent, ackDelivered, ok}
+use Rattle.automaton.specs.Actions.{subtreeOkSent, subtreeOkDelivered, clusterOk, downSent, downDelivered}
+use Rattle.automaton.specs.Actions.{preferredSent, preferredDelivered, upSent, upDelivered, clusterGo}
+use Rattle.automaton.specs.Actions.{subtreeGoSent, subtreeGoDelivered, go, input}
 use Rattle.automaton.specs.Network.{Net, isRoot, neighbours, children, preferredNeighbours}
 
--- What an action waits for, i being its count plus one.
+-- What an action waits for. "Let i be that count plus one."
 pub data Need : Type 0 where
-  -- "Has X" means X's count is at least i
+  -- "'Has X' means X's count is at least i"
   has : Act → Need
   -- X's count is at least i − 1
   hadBefore : Act → Need

@@ -1,5 +1,5 @@
--- A network over any type Value of values, and what its parents and links give. Node numbers are plain numbers: a definition has a value for
--- every number, and theorems speak of those below n.
+-- A network over any type of values, and what its parents and links give. Node numbers are plain numbers: a definition has a value for every
+-- number, and theorems speak of those below n.
 -- Assumes nothing.
 use Prim.Native.Nat.{ℕ}
 use mathlib.Core.Bool.{Bool, not}
@@ -14,13 +14,13 @@ pub record Net (Value : Type 0) : Type 0 where
   pub rounds : ℕ
   -- "A node that names itself as parent is a root"
   pub parent : ℕ → ℕ
-  -- a link joins the two; the link that joins the two is preferred
+  -- a link joins the two nodes; a preferred link does
   pub link : ℕ → ℕ → Bool
   pub preferred : ℕ → ℕ → Bool
-  -- the values at the start, and what a slot holds before anything was heard
+  -- the plan's start values, and what a slot holds before anything was heard: "all counts and slots are 0"
   pub start : ℕ → Value
   pub unheard : Value
-  -- the new value, of the own one and of those heard from the neighbours in rising order of their numbers
+  -- what an input makes of the own value and the neighbours' values, these in rising order of the neighbours' numbers
   pub rule : Value → List Value → Value
 
 module _ {Value : Type 0} (net : Net Value) where

@@ -13,14 +13,14 @@ unfoldable pub onCount : Act → Act → ℕ → ℕ
 onCount a b = ifB (same a b) suc (λ k. k)
 
 module _ {Value : Type 0} where
-  -- a message sent joins the queue from p to q at its end, and a delivery takes the first away
+  -- on the queue from p to q: what is sent joins at the end, a delivery takes the first away
   unfoldable pub onQueue : Global Value → Act → ℕ → ℕ → List (Msg Value) → List (Msg Value)
   onQueue s a p q =
       ifB (same a (packetSent p q)) (λ l. l ++ packet (s .value p) ∷ [])
       (ifB (same a (ackSent p q)) (λ l. l ++ ack ∷ [])
       (ifB (same a (packetDelivered p q)) tail (ifB (same a (ackDelivered p q)) tail (λ l. l))))
 
-  -- the value that the first message carries; where that is no packet, the slot stays as it was
+  -- what the slot holds after the first message is taken: a packet's value
   unfoldable pub carried : List (Msg Value) → Value → Value
   carried [] old = old
   carried (packet v ∷ l) old = v
