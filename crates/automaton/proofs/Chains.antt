@@ -1,21 +1,20 @@
 -- Chains of counts. By the trees, no node knows in a round before each node of its cluster has ok in that round (`know-ok`). An up word waits
 -- until its node knows and, over the preferred links, until a node of each joined cluster knows; so no node may go in a round before each
--- node of its own cluster and of every joined one has ok (`may-ok`). From this no node is two rounds ahead of a near one (`outputs-near`),
--- and on each link at most one packet and one ack are under way (`packet-ahead`, `ack-ahead`).
+-- node of its own cluster and of every joined one has ok (`may-ok`). So no node is two rounds ahead of a near one (`outputs-near`).
 -- Assumes nothing.
 use Prim.Native.Nat.{ℕ, suc, _≤_, _<_}
 use native.Mathlib.Nat.{le-trans}
 use native.Mathlib.Omega.{arith}
 use native.Mathlib.Decide.{ℕ-discrete}
-use mathlib.Core.Path.{_≡_, refl, sym, _∙_, subst}
+use mathlib.Core.Path.{_≡_, refl, sym, _∙_}
 use mathlib.Core.Bool.{true}
 use mathlib.Core.List.{List, map}
 use Rattle.laws.proofs.Choice.{b-elim}
-use Rattle.automaton.specs.Actions.{Act, output, packetSent, packetDelivered, ackSent, ackDelivered, ok}
+use Rattle.automaton.specs.Actions.{Act, output, ok}
 use Rattle.automaton.specs.Actions.{subtreeOkSent, subtreeOkDelivered, clusterOk, downSent, downDelivered}
 use Rattle.automaton.specs.Actions.{preferredSent, preferredDelivered, upSent, upDelivered, clusterGo}
 use Rattle.automaton.specs.Actions.{subtreeGoSent, subtreeGoDelivered, go, input}
-use Rattle.automaton.specs.Network.{Net, isRoot, neighbours, children, preferredNeighbours}
+use Rattle.automaton.specs.Network.{Net, isRoot, children, preferredNeighbours}
 use Rattle.automaton.specs.Clusters.{rootOf, Near, together, joined}
 use Rattle.automaton.specs.Accepted.{Accepted, Joining}
 use Rattle.automaton.specs.Needs.{Need, has, know, may, subtreeNeeds, upNeeds, needsOf}
@@ -145,36 +144,3 @@ module _ {Value : Type 0} (net : Net Value) (acc : Accepted net) (c : Act → �
 
   pub outputs-near : (p x : ℕ) → p < net .n → x < net .n → Near net p x → c (output p) ≤ suc (c (output x))
   outputs-near p x hp hx near = omega (arith, output-input p, input-ok p x hp hx near, ok-output x)
-
-  -- ---- the two ends of a link
-
-  module _ (p q : ℕ) (hp : p < net .n) (hq : q < net .n) (l : net .link p q ≡ true) where
-    -- an ok waits for the ack of each neighbour, and an ack for the packet's delivery
-    ok-ack : c (ok p) ≤ c (ackDelivered q p)
-    unfolding needsOf neighbours
-    ok-ack =
-        picked (λ x. c (ok p) ≤ c (ackDelivered x p)) (net .link p) (net .n)
-        (each-of-map (Holds c (c (ok p))) (λ x. has (ackDelivered x p)) (neighbours net p) (o .row (ok p) .1))
-        q
-        hq
-        l
-
-    pub ok-delivered : c (ok p) ≤ c (packetDelivered p q)
-    unfolding needsOf
-    ok-delivered = omega (arith, ok-ack, o .row (ackDelivered q p), o .row (ackSent q p))
-
-    -- at most one packet from p to q is under way
-    pub packet-ahead : c (packetSent p q) ≤ suc (c (packetDelivered p q))
-    unfolding needsOf
-    packet-ahead = omega (arith, o .row (packetSent p q), output-input p, input-ok p p hp hp (together refl), ok-delivered)
-
-    -- q was delivered at most one packet more than p has acks of
-    pub delivered-ahead : c (packetDelivered p q) ≤ suc (c (ackDelivered q p))
-    unfolding needsOf
-    delivered-ahead =
-        omega (arith, o .row (packetDelivered p q), o .row (packetSent p q), output-input p, input-ok p p hp hp (together refl), ok-ack)
-
-    -- at most one ack from q to p is under way
-    pub ack-ahead : c (ackSent q p) ≤ suc (c (ackDelivered q p))
-    unfolding needsOf
-    ack-ahead = omega (arith, o .row (ackSent q p), delivered-ahead)

@@ -3,6 +3,7 @@ pub mod Chains
 pub mod Demand
 pub mod Effects
 pub mod Lines
+pub mod Links
 pub mod Lists
 pub mod Order
 pub mod Plans

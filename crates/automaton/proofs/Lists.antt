@@ -3,10 +3,10 @@
 use Prim.Native.Nat.{ℕ, zero, suc, _<_}
 use native.Mathlib.Nat.{not-suc-le-zero, le-refl}
 use native.Mathlib.Omega.{arith}
-use mathlib.Core.Path.{_≡_, refl, ap₂, subst, sym}
-use mathlib.Core.Bool.{Bool, true, false}
+use mathlib.Core.Path.{_≡_, refl, ap₂, subst}
+use mathlib.Core.Bool.{Bool, true}
 use mathlib.Core.List.{List, [], _∷_, _++_, map}
-use Rattle.laws.specs.Choice.{ifB, both}
+use Rattle.laws.specs.Choice.{ifB}
 use Rattle.laws.proofs.Choice.{ifB-yes, b-elim, both-left, both-right}
 use Rattle.laws.proofs.Below.{below-split}
 use Rattle.automaton.specs.Lists.{every, pickBelow}

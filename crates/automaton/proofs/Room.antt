@@ -1,35 +1,40 @@
 -- Room in the queues. On each link at most one packet and one ack wait (`one-of-each`); a packet or an ack that may be sent finds none of its
 -- own sort waiting; so a send always finds room, and 18 is no answer to any action from a start state (`never-full`).
 -- Assumes nothing.
-use Prim.Native.Nat.{ℕ, suc, _+_, _≤_, _<_}
+use Prim.Native.Nat.{ℕ, _≤_, _<_}
 use native.Mathlib.Omega.{arith}
-use mathlib.Core.Path.{_≡_, refl, sym, _∙_, ap}
-use mathlib.Core.Bool.{Bool, true, false, true≢false}
-use mathlib.Core.List.{List}
+use mathlib.Core.Path.{_≡_, refl, sym, _∙_}
+use mathlib.Core.Bool.{true}
 use lib.Dec.{ltb}
 use lib.ListN.{length}
 use borrow.Author.Tests.{lt-ltb}
-use Rattle.laws.specs.Choice.{ifB}
-use Rattle.laws.proofs.Choice.{ifB-yes, ifB-no, b-elim}
-use Rattle.automaton.specs.Actions.{Act, same, bodyOf, output, packetSent, packetDelivered, ackSent}
+use Rattle.laws.proofs.Choice.{ifB-yes, b-elim}
+use Rattle.automaton.specs.Actions.{Act, same, bodyOf, packetSent, ackSent}
 use Rattle.automaton.specs.Network.{Net}
-use Rattle.automaton.specs.Clusters.{together}
 use Rattle.automaton.specs.Accepted.{Accepted}
 use Rattle.automaton.specs.Needs.{needsOf}
 use Rattle.automaton.specs.Global.{Global}
-use Rattle.automaton.specs.Answer.{sends, must, enabled, room, answer}
+use Rattle.automaton.specs.Answer.{sends, must, room, answer}
 use Rattle.automaton.proofs.Effects.{same-eq}
 use Rattle.automaton.proofs.Order.{enabled-holds}
-use Rattle.automaton.proofs.Chains.{input-ok, output-input, ok-delivered, packet-ahead, delivered-ahead, ack-ahead}
+use Rattle.automaton.proofs.Chains.{output-input}
+use Rattle.automaton.proofs.Links.{Ends, ends-back, input-delivered, packet-ahead, delivered-ahead, ack-ahead}
 use Rattle.automaton.proofs.Lines.{waiting, aPacket, anAck, all-waiting}
-use Rattle.automaton.proofs.Runs.{Allowed, Ends, ends-of, answer-allowed}
+use Rattle.automaton.proofs.Runs.{Allowed, ends-of, answer-allowed}
 use Rattle.automaton.proofs.Values.{Held}
+
+-- a send is a packet's or an ack's
+sends-elim : (P : Type 0) (a : Act) (p q : ℕ) → (a ≡ packetSent p q → P) → (a ≡ ackSent p q → P) → sends a p q ≡ true → P
+unfolding sends
+sends-elim P a p q isPacket isAck =
+    b-elim (λ t. t ≡ true → P) (same a (packetSent p q)) true (same a (ackSent p q)) (λ e _. isPacket (same-eq a (packetSent p q) e))
+    (λ _ e. isAck (same-eq a (ackSent p q) e))
 
 module _ {Value : Type 0} (net : Net Value) (acc : Accepted net) (s : Global Value) (h : Held net s) where
   pub one-of-each : (p q : ℕ) → Ends net p q → (waiting aPacket (s .queue p q) ≤ 1) × (waiting anAck (s .queue p q) ≤ 1)
   one-of-each p q on = (
-    omega (arith, h .lines p q .packets, packet-ahead net acc (s .count) (h .order) p q (on .pBelow) (on .qBelow) (on .linked)),
-    omega (arith, h .lines p q .acks, ack-ahead net acc (s .count) (h .order) q p (on .qBelow) (on .pBelow) (acc .bothWays p q (on .linked))),
+    omega (arith, h .lines p q .packets, packet-ahead net acc (s .count) (h .order) p q on),
+    omega (arith, h .lines p q .acks, ack-ahead net acc (s .count) (h .order) q p (ends-back net acc p q on)),
   )
 
   packet-fits : (p q : ℕ) → Allowed net s (packetSent p q) → length (s .queue p q) < 2
@@ -43,8 +48,7 @@ module _ {Value : Type 0} (net : Net Value) (acc : Accepted net) (s : Global Val
         h .lines p q .packets,
         enabled-holds net s (packetSent p q) (t .isEnabled),
         output-input net acc (s .count) (h .order) p,
-        input-ok net acc (s .count) (h .order) p p (on .pBelow) (on .pBelow) (together refl),
-        ok-delivered net acc (s .count) (h .order) p q (on .pBelow) (on .qBelow) (on .linked),
+        input-delivered net acc (s .count) (h .order) p q on,
       )
 
   ack-fits : (p q : ℕ) → Allowed net s (ackSent p q) → length (s .queue p q) < 2
@@ -57,25 +61,21 @@ module _ {Value : Type 0} (net : Net Value) (acc : Accepted net) (s : Global Val
         one-of-each p q on,
         h .lines p q .acks,
         enabled-holds net s (ackSent p q) (t .isEnabled),
-        delivered-ahead net acc (s .count) (h .order) q p (on .qBelow) (on .pBelow) (acc .bothWays p q (on .linked)),
+        delivered-ahead net acc (s .count) (h .order) q p (ends-back net acc p q on),
       )
 
   pub always-room : (a : Act) → Allowed net s a → room s a ≡ true
-  unfolding room sends
-  always-room a t = b-elim (λ x. x ≡ true) (sends a p q) (ltb (length (s .queue p q)) 2) true fits (λ _. refl)
+  unfolding room
+  always-room a t =
+      b-elim (λ b. b ≡ true) (sends a p q) (ltb (length (s .queue p q)) 2) true
+      (λ e. lt-ltb (length (s .queue p q)) 2 (sends-elim (length (s .queue p q) < 2) a p q (λ is. packet-fits p q (rw is at t)) (λ is. ack-fits p q (rw is at t)) e))
+      (λ _. refl)
     where
       p : ℕ
       p = bodyOf a .p
 
       q : ℕ
       q = bodyOf a .q
-
-      fits : sends a p q ≡ true → ltb (length (s .queue p q)) 2 ≡ true
-      fits e = lt-ltb (length (s .queue p q)) 2 (at (same a (packetSent p q)) refl)
-        where
-          at : (b : Bool) → same a (packetSent p q) ≡ b → length (s .queue p q) < 2
-          at true is = packet-fits p q (rw (same-eq a (packetSent p q) is) at t)
-          at false other = ack-fits p q (rw (same-eq a (ackSent p q) (sym (ifB-no (same a (packetSent p q)) true (same a (ackSent p q)) other) ∙ e)) at t)
 
   pub never-full : (a : Act) → answer net s a ≡ 18 → ⊥
   unfolding must

@@ -8,13 +8,14 @@ use mathlib.Core.Bool.{Bool, true, false}
 use mathlib.Core.List.{List, [], _∷_}
 use lib.Dec.{ltb}
 use borrow.Author.Tests.{ltb-true}
-use Rattle.laws.specs.Choice.{ifB, ifEq, both}
+use Rattle.laws.specs.Choice.{ifB, ifEq}
 use Rattle.laws.proofs.Choice.{ifB-yes, eq-elim, both-left, both-right}
 use Rattle.automaton.specs.Actions.{Act, two, aLink, bodyOf}
 use Rattle.automaton.specs.Network.{Net}
 use Rattle.automaton.specs.Global.{Global}
 use Rattle.automaton.specs.Answer.{must, fits, known, legal, inTime, enabled, room, answer}
 use Rattle.automaton.specs.Run.{after, step, run}
+use Rattle.automaton.proofs.Links.{Ends}
 
 -- none of 13, 14, 15, 16 applies
 pub record Allowed {Value : Type 0} (net : Net Value) (s : Global Value) (a : Act) : Type 0 where
@@ -30,11 +31,6 @@ node-below net s a t =
     ltb-true (bodyOf a .p) (net .n) (both-left (ltb (bodyOf a .p) (net .n)) (ltb (bodyOf a .q) (net .n)) (t .isKnown))
 
 -- 13 and 14 leave the two ends of a link
-pub record Ends {Value : Type 0} (net : Net Value) (p q : ℕ) : Type 0 where
-  pub pBelow : p < net .n
-  pub qBelow : q < net .n
-  pub linked : net .link p q ≡ true
-
 pub ends-of :
     {Value : Type 0} (net : Net Value) (s : Global Value) (a : Act) (p q : ℕ) → Allowed net s a → bodyOf a ≡ two aLink p q → Ends net p q
 unfolding known legal fits

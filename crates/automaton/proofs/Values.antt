@@ -3,7 +3,7 @@
 -- finished as many rounds as packets were delivered, so it carries the value of that many rounds. And at an input every neighbour's packet of
 -- that round was delivered and at most the next one after it, so the slot of the round's parity still holds it.
 -- Assumes nothing.
-use Prim.Native.Nat.{ℕ, suc, _+_, _%_, _≤_, _<_}
+use Prim.Native.Nat.{ℕ, suc, _+_, _≤_, _<_}
 use native.Mathlib.Nat.{not-suc-le-zero}
 use native.Mathlib.Omega.{arith}
 use native.Mathlib.Decide.{ℕ-discrete}
@@ -11,7 +11,6 @@ use mathlib.Core.Path.{_≡_, refl, _∙_, ap, ap₂}
 use mathlib.Core.Bool.{true, false}
 use Rattle.automaton.specs.Actions.{Act, same, bodyOf, packetSent, packetDelivered, ackDelivered, go, input}
 use Rattle.automaton.specs.Network.{Net, neighbours}
-use Rattle.automaton.specs.Clusters.{together, joined}
 use Rattle.automaton.specs.Accepted.{Accepted}
 use Rattle.automaton.specs.Needs.{needsOf}
 use Rattle.automaton.specs.Global.{Global, parity, begin}
@@ -22,7 +21,8 @@ use Rattle.automaton.proofs.Lists.{map-same, picked-all}
 use Rattle.automaton.proofs.Effects.{same-elim, count-raised, count-untouched}
 use Rattle.automaton.proofs.Effects.{slot-written, slot-spared, slot-untouched, value-set, value-untouched}
 use Rattle.automaton.proofs.Order.{Ordered, order-begins, order-kept, enabled-met, enabled-holds}
-use Rattle.automaton.proofs.Chains.{may-ok, input-ok, ok-output, output-input, ok-delivered, packet-ahead}
+use Rattle.automaton.proofs.Chains.{output-input}
+use Rattle.automaton.proofs.Links.{Ends, ends-back, input-delivered, packet-ahead, delivered-input, may-delivered}
 use Rattle.automaton.proofs.Lines.{wayOf, waiting, traffic, Line, packet-joins, ack-joins, packet-leaves, ack-leaves, carried-is}
 use Rattle.automaton.proofs.Runs.{Allowed, ends-of, node-below}
 
@@ -67,8 +67,7 @@ module _ {Value : Type 0} (net : Net Value) (acc : Accepted net) (s : Global Val
         arith,
         enabled-holds net s (packetSent p q) (t .isEnabled),
         output-input net acc (s .count) (h .order) p,
-        input-ok net acc (s .count) (h .order) p p (on .pBelow) (on .pBelow) (together refl),
-        ok-delivered net acc (s .count) (h .order) p q (on .pBelow) (on .qBelow) (on .linked),
+        input-delivered net acc (s .count) (h .order) p q on,
         h .order .row (packetDelivered p q),
       )
       in
@@ -76,9 +75,7 @@ module _ {Value : Type 0} (net : Net Value) (acc : Accepted net) (s : Global Val
 
   one-under-way : (p q : ℕ) → Allowed net s (packetDelivered p q) → s .count (packetSent p q) ≤ suc (s .count (packetDelivered p q))
   unfolding bodyOf
-  one-under-way p q t =
-      let on = ends-of net s (packetDelivered p q) p q t refl in
-      packet-ahead net acc (s .count) (h .order) p q (on .pBelow) (on .qBelow) (on .linked)
+  one-under-way p q t = packet-ahead net acc (s .count) (h .order) p q (ends-of net s (packetDelivered p q) p q t refl)
 
   packet-first : (p q : ℕ) → Allowed net s (packetDelivered p q) → packetAtFront (s .queue p q) ≡ true
   unfolding needsOf met
@@ -134,25 +131,15 @@ module _ {Value : Type 0} (net : Net Value) (acc : Accepted net) (s : Global Val
       → s .slot q p (parity (suc (s .count (input p)))) ≡ lockstep net (s .count (input p)) q
   unfolding needsOf bodyOf
   heard-from p t q hq l =
-      let hp = node-below net s (input p) t in
-      let l′ = acc .bothWays p q l in
+      let on : Ends net p q = record { pBelow = node-below net s (input p) t; qBelow = hq; linked = l } in
       h .slots q p (s .count (input p))
       (omega (
         arith,
         enabled-holds net s (input p) (t .isEnabled),
         h .order .row (go p),
-        may-ok net acc (s .count) (h .order) p q hp hq (joined p q l refl refl),
-        ok-delivered net acc (s .count) (h .order) q p hq hp l′,
+        may-delivered net acc (s .count) (h .order) p q on,
       ))
-      (omega (
-        arith,
-        h .order .row (packetDelivered q p),
-        h .order .row (packetSent q p),
-        output-input net acc (s .count) (h .order) q,
-        input-ok net acc (s .count) (h .order) q p hq hp (joined q p l′ refl refl),
-        ok-output net acc (s .count) (h .order) p,
-        output-input net acc (s .count) (h .order) p,
-      ))
+      (delivered-input net acc (s .count) (h .order) q p (ends-back net acc p q on))
 
   next-value :
       (p : ℕ) → Allowed net s (input p)
