@@ -67,15 +67,16 @@ module _ {Value : Type 0} (net : Net Value) (acc : Accepted net) (s : Global Val
   pub always-room : (a : Act) → Allowed net s a → room s a ≡ true
   unfolding room
   always-room a t =
-      b-elim (λ b. b ≡ true) (sends a p q) (ltb (length (s .queue p q)) 2) true
-      (λ e. lt-ltb (length (s .queue p q)) 2 (sends-elim (length (s .queue p q) < 2) a p q (λ is. packet-fits p q (rw is at t)) (λ is. ack-fits p q (rw is at t)) e))
-      (λ _. refl)
+      b-elim (λ b. b ≡ true) (sends a p q) (ltb (length (s .queue p q)) 2) true (λ e. lt-ltb (length (s .queue p q)) 2 (short e)) (λ _. refl)
     where
       p : ℕ
       p = bodyOf a .p
 
       q : ℕ
       q = bodyOf a .q
+
+      short : sends a p q ≡ true → length (s .queue p q) < 2
+      short = sends-elim (length (s .queue p q) < 2) a p q (λ is. packet-fits p q (rw is at t)) (λ is. ack-fits p q (rw is at t))
 
   pub never-full : (a : Act) → answer net s a ≡ 18 → ⊥
   unfolding must

@@ -58,20 +58,20 @@ other-parity k d lo hi apart e = apart (omega arith)
 module _ {Value : Type 0} (net : Net Value) (acc : Accepted net) (s : Global Value) (h : Held net s) where
   -- ---- a direction of a link
 
-  sent-value : (p q : ℕ) → Allowed net s (packetSent p q) → s .value p ≡ lockstep net (s .count (packetDelivered p q)) p
+  -- when a packet is sent, its sender has finished as many rounds as packets were delivered
+  sent-rounds : (p q : ℕ) → Allowed net s (packetSent p q) → s .count (input p) ≡ s .count (packetDelivered p q)
   unfolding needsOf bodyOf
-  sent-value p q t =
-      let on = ends-of net s (packetSent p q) p q t refl in
-      let rounds : s .count (input p) ≡ s .count (packetDelivered p q) =
+  sent-rounds p q t =
       omega (
         arith,
         enabled-holds net s (packetSent p q) (t .isEnabled),
         output-input net acc (s .count) (h .order) p,
-        input-delivered net acc (s .count) (h .order) p q on,
+        input-delivered net acc (s .count) (h .order) p q (ends-of net s (packetSent p q) p q t refl),
         h .order .row (packetDelivered p q),
       )
-      in
-      h .values p ∙ ap (λ k. lockstep net k p) rounds
+
+  sent-value : (p q : ℕ) → Allowed net s (packetSent p q) → s .value p ≡ lockstep net (s .count (packetDelivered p q)) p
+  sent-value p q t = h .values p ∙ ap (λ k. lockstep net k p) (sent-rounds p q t)
 
   one-under-way : (p q : ℕ) → Allowed net s (packetDelivered p q) → s .count (packetSent p q) ≤ suc (s .count (packetDelivered p q))
   unfolding bodyOf
