@@ -8,7 +8,8 @@ use mathlib.Core.Bool.{true}
 use mathlib.Core.List.{List, [], _∷_, _++_, map}
 use lib.ListN.{replicate}
 use Rattle.laws.specs.Choice.{ifB, ifEq, both}
-use Rattle.automaton.specs.Lists.{every, pickBelow}
+use Rattle.laws.specs.Below.{pickBelow}
+use Rattle.automaton.specs.Lists.{every}
 use Rattle.automaton.specs.Actions.{Act, same, bodyOf, output, packetSent, packetDelivered, ackSent, ackDelivered, ok}
 use Rattle.automaton.specs.Actions.{subtreeOkSent, subtreeOkDelivered, clusterOk, downSent, downDelivered}
 use Rattle.automaton.specs.Actions.{preferredSent, preferredDelivered, upSent, upDelivered, clusterGo}
