@@ -35,6 +35,14 @@ placeOf SubtreeGoDelivered = Place.Child
 placeOf Go = Place.Node
 placeOf Input = Place.Node
 
+-- "Every action has a count of times taken": where the numbers name a link, one for its direction from p to q
+unfoldable pub ownOf : Place → Kind → ℕ → ℕ → Counter
+ownOf Place.Node k p lane = count k p
+ownOf Place.Link k p lane = count k lane
+ownOf Place.PreferredLink k p lane = count k lane
+ownOf Place.Child k p lane = count k p
+ownOf Place.Root k p lane = count k p
+
 -- "A root knows by 24, another node by 26."
 unfoldable pub knowsBy : Bool → ℕ → Counter
 knowsBy root p = ifB root (count ClusterOk p) (count DownDelivered p)

@@ -4,7 +4,7 @@ ghost use mathlib.Core.Path.{_≡_};
 ghost use Prim.Native.Nat.{_<_, _*_};
 ghost use lib.ListN.{length};
 ghost use Rattle.actions.specs.Kinds.{numberOf, kinds, kindAt, indexOf, cellOf};
-ghost use Rattle.actions.specs.Table.{placeOf, knowsBy, mayGoBy, needOf, everyOf, doesOf};
+ghost use Rattle.actions.specs.Table.{placeOf, ownOf, knowsBy, mayGoBy, needOf, everyOf, doesOf};
 ghost use Rattle.actions.specs.Records.{bodyOf, readAt};
 
 // In document 01's order and words.
@@ -150,6 +150,19 @@ pub struct Around {
     pub parent: u8,
     pub root: bool,
     pub rooted: bool,
+}
+
+// The action's own count: along the direction from p to q where it names a link, p's where not.
+pub fn own_of(place: Place, kind: Kind, p: u8, lane: u8) -> Counter
+    ensures { λ r. ⌜ r ≡ ownOf place kind p lane ⌝ }
+{
+    match place {
+        Place::Node => Counter(kind, p),
+        Place::Link => Counter(kind, lane),
+        Place::PreferredLink => Counter(kind, lane),
+        Place::Child => Counter(kind, p),
+        Place::Root => Counter(kind, p),
+    }
 }
 
 // "A root knows by 24, another node by 26."
