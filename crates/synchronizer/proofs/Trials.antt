@@ -10,8 +10,10 @@ use Rattle.laws.specs.Below.{allBelow, foldBelow, listBelow, overBelow}
 use Rattle.nodeset.specs.Marks.{digit, member, inserted, allIn}
 use Rattle.network.specs.Sets.{towards, linkGives, linkSet, childSet, withSets}
 use Rattle.network.specs.Valid.{withinLimits, nodeFits, rises, linkFits, linkRises, linkStands, agrees, validNetwork}
-use Rattle.lockstep.specs.Members.{pickBelow, membersOf, valuesIn}
-use Rattle.lockstep.specs.Rule.{shareOf, total, ruleOf}
+use Rattle.laws.specs.Below.{pickBelow}
+use Rattle.laws.specs.Lists.{total}
+use Rattle.nodeset.specs.Marks.{membersOf, valuesIn}
+use Rattle.lockstep.specs.Rule.{shareOf, ruleOf}
 use Rattle.lockstep.specs.Trials.{filled, planT, planP}
 use Rattle.actions.specs.Kinds.{numberOf, indexOf, kindAt, cellOf}
 use Rattle.actions.specs.Table.{placeOf, ownOf, knowsBy, mayGoBy, needOf, everyOf, doesOf}

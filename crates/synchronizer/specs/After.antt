@@ -5,7 +5,7 @@ use mathlib.Core.List.{List}
 use lib.ListN.{getD, set}
 use Rattle.laws.specs.Choice.{ifLt}
 use Rattle.network.specs.declared.Network.{Network}
-use Rattle.lockstep.specs.Members.{valuesIn}
+use Rattle.nodeset.specs.Marks.{valuesIn}
 use Rattle.lockstep.specs.Rule.{ruleOf}
 use Rattle.actions.specs.declared.Kind.{Kind}
 use Rattle.actions.specs.declared.Counter.{Counter}
