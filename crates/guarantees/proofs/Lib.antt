@@ -1,2 +1,7 @@
 pub mod Directions
 pub mod Links
+pub mod Members
+pub mod Needs
+pub mod Seats
+pub mod Tables
+pub mod Waiting

@@ -161,6 +161,11 @@ module _ (net : Network) (v : validNetwork net ≡ true) where
           child-set-to (net .parents) (min (net .nodes) 64) p c (omega (arith, at-most-64 c b)) (at-most-64 c b) (eqb-true _ p (both-left _ _ t))
           (eqb-false c p (not-true _ (both-right _ _ t)))
 
+  pub member-child : (p c : ℕ) → p < net .nodes → member (getD (net .children) p 0) c ≡ true → c < net .nodes
+  member-child p c h m =
+      let (b, _, _) = child-set-from (net .parents) (min (net .nodes) 64) p c (rw (children-kept net v p (at-most-64 p h)) at m) in
+      omega arith
+
   -- ---- and so the automaton's lists are the members of the kept sets
 
   -- numbers below the node count that pass a test are the members of a set that holds just these
@@ -184,9 +189,4 @@ module _ (net : Network) (v : validNetwork net ≡ true) where
   pub children-are : (p : ℕ) → p < net .nodes → children (netOf net) p ≡ membersOf (getD (net .children) p 0)
   unfolding children netOf
   children-are p h =
-      members-are (getD (net .children) p 0) (λ c. both (eqb (getD (net .parents) c 0) p) (not (eqb c p))) (λ c b. child-is p c h b) (λ c m. child-below c (rw (children-kept net v p (at-most-64 p h)) at m))
-    where
-      child-below : (c : ℕ) → member (childSet (net .parents) (min (net .nodes) 64) p) c ≡ true → c < net .nodes
-      child-below c m =
-          let (b, _, _) = child-set-from (net .parents) (min (net .nodes) 64) p c m in
-          omega arith
+      members-are (getD (net .children) p 0) (λ c. both (eqb (getD (net .parents) c 0) p) (not (eqb c p))) (λ c. child-is p c h) (λ c. member-child p c h)
