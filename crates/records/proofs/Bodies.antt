@@ -1,7 +1,7 @@
 -- The body length of each kind of record that has one.
 -- Assumes nothing.
 use Prim.Native.Nat.{ℕ}
-use mathlib.Core.Path.{_≡_, refl, _∙_}
+use mathlib.Core.Path.{_≡_, _∙_}
 use Rattle.laws.specs.Choice.{ifB, ifEq}
 use Rattle.laws.proofs.Choice.{ifEq-no}
 use Rattle.records.specs.Record.{bodyLength}

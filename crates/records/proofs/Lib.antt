@@ -1,3 +1,10 @@
+pub mod Answers
+pub mod Begun
 pub mod Bodies
+pub mod Codec
+pub mod Keeping
+pub mod Lists
+pub mod Networks
+pub mod Rising
 pub mod Rules
 pub mod Turns

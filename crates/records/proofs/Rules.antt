@@ -3,8 +3,8 @@
 -- Assumes nothing.
 use Prim.Native.Nat.{ℕ, _<_, _≤_}
 use native.Mathlib.Omega.{arith}
-use mathlib.Core.Path.{_≡_, refl, sym, _∙_, subst}
-use mathlib.Core.Bool.{Bool, true, false}
+use mathlib.Core.Path.{_≡_}
+use mathlib.Core.Bool.{Bool, true}
 use Rattle.laws.specs.Choice.{ifB, ifLt, ifEq}
 use Rattle.laws.proofs.Choice.{lt-elim, eq-elim, b-elim, true-not-false}
 use Rattle.network.specs.declared.Network.{Network}

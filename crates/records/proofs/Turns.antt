@@ -1,25 +1,24 @@
 -- Why the reading loop is right: as long as turns are left for the bytes from the offset on, what `listsFrom` gives there is the answer to the
 -- whole. Each read either ends the loop with that answer, or leaves one turn less and a later offset.
 -- Assumes nothing.
-use Prim.Native.Nat.{ℕ, zero, suc, pred, _+_, _-_, _<_, _≤_}
+use Prim.Native.Nat.{ℕ, zero, suc, pred, _+_, _<_, _≤_}
 use native.Mathlib.Omega.{arith}
 use mathlib.Core.Path.{_≡_, refl, sym, _∙_, ap, subst}
-use mathlib.Core.Bool.{Bool, true, false}
+use mathlib.Core.Bool.{true, false}
 use mathlib.Core.List.{List}
 use lib.ListN.{length, getD}
-use Rattle.laws.specs.Choice.{ifLt, ifEq, ifB}
-use Rattle.laws.proofs.Choice.{lt-elim, ifEq-yes, ifEq-no, ifB-yes, ifB-no}
+use Rattle.laws.proofs.Choice.{ifEq-yes, ifEq-no, ifB-yes, ifB-no}
 use Rattle.network.specs.declared.Network.{Network}
 use Rattle.records.specs.declared.Record.{Record}
 use Rattle.records.specs.declared.Record.the-variants.{End, Rounds, Node, Link}
 use Rattle.records.specs.declared.Read.{Read}
 use Rattle.records.specs.declared.Read.the-variants.{Nothing, Unknown, Short, Whole}
 use Rattle.records.specs.declared.Cursor.{Cursor}
-use Rattle.records.specs.declared.Listed.{Listed}
 use Rattle.records.specs.Numbers.{accepted, kindUnknown, cutShort, outOfOrder}
-use Rattle.records.specs.Record.{bodyLength, recordAt, readAt}
+use Rattle.records.specs.Record.{bodyLength, readAt}
 use Rattle.records.specs.Rules.{ruleOf}
 use Rattle.records.specs.Reader.{zeroNetwork, nodeAdded, linkAdded, roundsAdded, HasRoom, addOf, closesOf, refusedWith, acceptedWith, turn, listsFrom, listsOf}
+use Rattle.records.proofs.Codec.{read-cases}
 
 -- what holds between two records: the offset and the network so far
 pub record Reading (s : List ℕ) (at : ℕ) (net : Network) : Type 0 where
@@ -41,29 +40,16 @@ starts s = record { turns = suc (length s); within = omega arith; enough = omega
 
 -- a whole record ends after it begins, and within the bytes
 pub whole-ends : (s : List ℕ) (at : ℕ) (r : Record) (next : Cursor) → readAt s at ≡ Whole r next → (at < next .at) × (next .at ≤ length s)
-unfolding readAt
 whole-ends s at r next e =
-    lt-elim (λ x. x ≡ Whole r next → Ends) at (length s) (ifLt 3 (getD s at 0) Unknown long) Nothing
-    (λ l. lt-elim (λ x. x ≡ Whole r next → Ends) 3 (getD s at 0) Unknown long (λ _ q. wrong (cc))
-    (λ _. lt-elim (λ x. x ≡ Whole r next → Ends) (length s - (at + 1)) (bodyLength (getD s at 0)) Short (Whole what past) (λ _ q. wrong (cc))
-    (λ h q. let p : past ≡ next = cc in subst (λ n. (at < n .at) × (n .at ≤ length s)) p (omega arith))))
-    (λ _ q. wrong (cc))
+    read-cases s at (λ x. x ≡ Whole r next → (at < next .at) × (next .at ≤ length s)) (λ _ q. other (cc)) (λ _ _ q. other (cc)) (λ _ _ _ q. other (cc))
+    (λ _ h q. let p : past ≡ next = cc in subst (λ n. (at < n .at) × (n .at ≤ length s)) p (omega arith))
     e
   where
-    Ends : Type 0
-    Ends = (at < next .at) × (next .at ≤ length s)
-
-    what : Record
-    what = recordAt s (getD s at 0) (at + 1)
-
     past : Cursor
     past = record { at = at + 1 + bodyLength (getD s at 0) }
 
-    long : Read
-    long = ifLt (length s - (at + 1)) (bodyLength (getD s at 0)) Short (Whole what past)
-
-    wrong : _≡_ {A = ℕ} 0 1 → Ends
-    wrong z = absurd (omega arith)
+    other : _≡_ {A = ℕ} 0 1 → (at < next .at) × (next .at ≤ length s)
+    other z = absurd (omega arith)
 
 -- the answer to the whole is what the read at the offset comes to
 pub one-turn : {s : List ℕ} {at : ℕ} {net : Network} (x : Read) (R : Reading s at net) → readAt s at ≡ x → turn s at net (listsFrom (pred (R .turns)) s) x ≡ listsOf s

@@ -11,7 +11,7 @@ use Rattle.records.specs.declared.Record.the-variants.{End, Rounds, Node
 use Rattle.records.specs.Numbers.{kindUnknown, cutShort, outOfOrder, tooMany, outOfRange}
 use Rattle.records.specs.Record.{bodyLength}
 use Rattle.records.specs.Reader.{closesOf}
-use Rattle.records.specs.Plan.{Plan, PlanNode, PlanLink, roundsBytes, nodeBytes, linkBytes, bytesOf, networkOf, Keeps1to5, LinkFits, Rising}
+use Rattle.records.specs.Plan.{Plan, roundsBytes, nodeBytes, linkBytes, bytesOf, networkOf, Keeps1to5, LinkFits, Rising}
 
 -- what is handed in is bytes
 abbrev pub Bytes : List ℕ → Type 0

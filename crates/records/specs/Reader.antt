@@ -102,13 +102,17 @@ closesOf (Rounds v) = false
 closesOf (Node number parent start) = false
 closesOf (Link a b flag) = false
 
+-- number, place and network
+abbrev pub answered : ℕ → ℕ → Network → Listed
+answered number place net = record { number = number; place = place; network = net }
+
 -- "A refused plan hands back a network of zeros"
 abbrev pub refusedWith : ℕ → ℕ → Listed
-refusedWith number place = record { number = number; place = place; network = zeroNetwork }
+refusedWith number place = answered number place zeroNetwork
 
 -- "The plan reader answers also how many bytes the plan took"
 abbrev pub acceptedWith : ℕ → Network → Listed
-acceptedWith place net = record { number = accepted; place = place; network = net }
+acceptedWith place net = answered accepted place net
 
 -- what the record at an offset comes to after the network of those before it, where `rest` reads on from the next offset. Past the last
 -- byte there is no kind 0: 3, and "record, or length" for its place

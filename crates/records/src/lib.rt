@@ -5,10 +5,12 @@ ghost use lib.ListN.{length};
 ghost use Rattle.network.specs.Valid.{rises};
 ghost use Rattle.records.specs.Record.{bodyLength, pairOf, recordAt, readAt};
 ghost use Rattle.records.specs.Rules.{roundsRule, nodeRule, linkRule, endRule, followsOf, ruleOf};
-ghost use Rattle.records.specs.Reader.{zeroNetwork, roundsAdded, nodeAdded, linkAdded, HasRoom, addOf, closesOf, refusedWith, listsOf};
+ghost use Rattle.records.specs.Reader.{zeroNetwork, roundsAdded, nodeAdded, linkAdded, HasRoom, addOf, closesOf, answered, listsOf};
 use network::Network;
 
 // The plan's numbers that one record decides.
+pub const ACCEPTED: u8 = 0;
+
 pub const KIND_UNKNOWN: u8 = 1;
 
 pub const CUT_SHORT: u8 = 2;
@@ -151,7 +153,7 @@ fn rounds_rule(rounds: u16, v: u16) -> u8
     if 10000 < v {
         return OUT_OF_RANGE;
     }
-    0
+    ACCEPTED
 }
 
 fn node_rule(rounds: u16, nodes: usize, links: usize, number: u8) -> u8
@@ -165,7 +167,7 @@ fn node_rule(rounds: u16, nodes: usize, links: usize, number: u8) -> u8
     }
     if (number as usize) == nodes {
         if nodes < 64 {
-            return 0;
+            return ACCEPTED;
         }
         return TOO_MANY;
     }
@@ -183,7 +185,7 @@ fn link_rule(nodes: usize, links: usize, follows: bool, a: u8, b: u8, flag: u8) 
             if a < b {
                 if (b as usize) < nodes {
                     if flag < 2 {
-                        return 0;
+                        return ACCEPTED;
                     }
                     return OUT_OF_RANGE;
                 }
@@ -202,7 +204,7 @@ fn end_rule(nodes: usize) -> u8
     if nodes == 0 {
         return OUT_OF_ORDER;
     }
-    0
+    ACCEPTED
 }
 
 // The lowest of 3, 4 and 5 that a record breaks after the records of the network, and 0 where it keeps them.
@@ -313,40 +315,36 @@ fn closes(rec: Record) -> bool
     }
 }
 
-// "A refused plan hands back a network of zeros."
-fn refused(number: u8, place: usize) -> Listed
-    ensures { λ r. ⌜ r ≡ refusedWith number place ⌝ }
+fn answer(number: u8, place: usize, network: Network) -> Listed
+    ensures { λ r. ⌜ r ≡ answered number place network ⌝ }
 {
     Listed {
         number,
         place,
-        network: zeros(),
+        network,
     }
 }
 
-// The records of a plan, from the first to kind 0 or to the first fault.
+// The records of a plan, from the first to kind 0 or to the first fault. "A refused plan hands back a network of zeros."
 pub fn read_lists(bytes: &[u8]) -> Listed
     ensures { λ r. ⌜ r ≡ listsOf (now (bytes .entry)) ⌝ }
 {
-    let mut net = zeros();
+    let none = zeros();
+    let mut net = none;
     let mut cursor = Cursor { at: 0 };
     loop {
         let place = cursor.at;
         match cursor.read(bytes) {
-            Read::Nothing => return refused(OUT_OF_ORDER, bytes.len()),
-            Read::Unknown => return refused(KIND_UNKNOWN, place),
-            Read::Short => return refused(CUT_SHORT, place),
+            Read::Nothing => return answer(OUT_OF_ORDER, bytes.len(), none),
+            Read::Unknown => return answer(KIND_UNKNOWN, place, none),
+            Read::Short => return answer(CUT_SHORT, place, none),
             Read::Whole(rec, next) => {
                 let number = rule(net, rec);
-                if number != 0 {
-                    return refused(number, place);
+                if number != ACCEPTED {
+                    return answer(number, place, none);
                 }
                 if closes(rec) {
-                    return Listed {
-                        number: 0,
-                        place: next.at,
-                        network: net,
-                    };
+                    return answer(ACCEPTED, next.at, net);
                 }
                 let more = add(net, rec);
                 net = more;
