@@ -5,6 +5,8 @@ pub mod Codec
 pub mod Keeping
 pub mod Lists
 pub mod Networks
+pub mod Outcome
 pub mod Rising
 pub mod Rules
+pub mod Through
 pub mod Turns

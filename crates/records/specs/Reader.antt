@@ -11,7 +11,7 @@ use Rattle.records.specs.declared.Record.{Record}
 use Rattle.records.specs.declared.Record.the-variants.{End, Rounds, Node, Link}
 use Rattle.records.specs.declared.Read.{Read}
 use Rattle.records.specs.declared.Read.the-variants.{Nothing, Unknown, Short, Whole}
-use Rattle.records.specs.declared.Listed.{Listed}
+use Rattle.records.specs.declared.Planned.{Planned}
 use Rattle.records.specs.Numbers.{accepted, kindUnknown, cutShort, outOfOrder}
 use Rattle.records.specs.Record.{readAt}
 use Rattle.records.specs.Rules.{ruleOf}
@@ -103,20 +103,20 @@ closesOf (Node number parent start) = false
 closesOf (Link a b flag) = false
 
 -- number, place and network
-abbrev pub answered : ℕ → ℕ → Network → Listed
+abbrev pub answered : ℕ → ℕ → Network → Planned
 answered number place net = record { number = number; place = place; network = net }
 
 -- "A refused plan hands back a network of zeros"
-abbrev pub refusedWith : ℕ → ℕ → Listed
+abbrev pub refusedWith : ℕ → ℕ → Planned
 refusedWith number place = answered number place zeroNetwork
 
 -- "The plan reader answers also how many bytes the plan took"
-abbrev pub acceptedWith : ℕ → Network → Listed
+abbrev pub acceptedWith : ℕ → Network → Planned
 acceptedWith place net = answered accepted place net
 
 -- what the record at an offset comes to after the network of those before it, where `rest` reads on from the next offset. Past the last
 -- byte there is no kind 0: 3, and "record, or length" for its place
-unfoldable pub turn : List ℕ → ℕ → Network → (ℕ → Network → Listed) → Read → Listed
+unfoldable pub turn : List ℕ → ℕ → Network → (ℕ → Network → Planned) → Read → Planned
 turn s at net rest Nothing = refusedWith outOfOrder (length s)
 turn s at net rest Unknown = refusedWith kindUnknown at
 turn s at net rest Short = refusedWith cutShort at
@@ -126,9 +126,9 @@ turn s at net rest (Whole r next) =
     (refusedWith (ruleOf net r) at)
 
 -- the records from an offset on. Each has at least its kind byte, so as many turns as bytes, and one more for their end, are enough
-unfoldable pub listsFrom : ℕ → List ℕ → ℕ → Network → Listed
+unfoldable pub listsFrom : ℕ → List ℕ → ℕ → Network → Planned
 listsFrom zero s at net = refusedWith outOfOrder (length s)
 listsFrom (suc turns) s at net = turn s at net (listsFrom turns s) (readAt s at)
 
-unfoldable pub listsOf : List ℕ → Listed
+unfoldable pub listsOf : List ℕ → Planned
 listsOf s = listsFrom (suc (length s)) s 0 zeroNetwork

@@ -42,9 +42,9 @@ pub struct Cursor {
     pub at: usize,
 }
 
-// What reading the records comes to: 0, the bytes that the plan took and its network, its sets still empty; or 1 to 5, the place that the
-// number has, and a network of zeros.
-pub struct Listed {
+// What reading a plan comes to: 0, the bytes that the plan took and its network; or the number of a refusal, the place that document 01
+// gives it, and a network of zeros.
+pub struct Planned {
     pub number: u8,
     pub place: usize,
     pub network: Network,
@@ -231,7 +231,7 @@ fn rule(net: Network, rec: Record) -> u8
     }
 }
 
-fn zeros() -> Network
+pub fn zeros() -> Network
     ensures { λ r. ⌜ r ≡ zeroNetwork ⌝ }
 {
     Network {
@@ -315,18 +315,19 @@ fn closes(rec: Record) -> bool
     }
 }
 
-fn answer(number: u8, place: usize, network: Network) -> Listed
+pub fn answer(number: u8, place: usize, network: Network) -> Planned
     ensures { λ r. ⌜ r ≡ answered number place network ⌝ }
 {
-    Listed {
+    Planned {
         number,
         place,
         network,
     }
 }
 
-// The records of a plan, from the first to kind 0 or to the first fault. "A refused plan hands back a network of zeros."
-pub fn read_lists(bytes: &[u8]) -> Listed
+// The records of a plan, from the first to kind 0 or to the first fault: 0 or 1 to 5. "A refused plan hands back a network of zeros", and
+// the sets of an accepted one are still empty.
+pub fn read_lists(bytes: &[u8]) -> Planned
     ensures { λ r. ⌜ r ≡ listsOf (now (bytes .entry)) ⌝ }
 {
     let none = zeros();
