@@ -1,0 +1,1 @@
+// Whether all nodes are joined through links: check 10 of a plan.

@@ -1,0 +1,1 @@
+// The list of links of a network.
