@@ -1,1 +1,3 @@
+pub mod Breach
+pub mod Links
 pub mod Worked
