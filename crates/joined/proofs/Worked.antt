@@ -1,10 +1,9 @@
 -- Worked values of check 10.
 -- Assumes nothing.
-use Prim.Native.Nat.{ℕ, _+_, _-_}
 use mathlib.Core.Path.{_≡_, refl}
-use mathlib.Core.List.{List, [], _∷_}
+use mathlib.Core.List.{[], _∷_}
 use Rattle.laws.specs.Choice.{ifB, ifLt}
-use Rattle.laws.specs.Below.{foldBelow, firstOf, listBelow}
+use Rattle.laws.specs.Below.{foldBelow, firstOf}
 use Rattle.nodeset.specs.Marks.{digit, member, inserted}
 use Rattle.links.proofs.Worked.{network}
 use Rattle.joined.specs.Joined.{follow, across, pass, joinedMarks, firstUnjoined}

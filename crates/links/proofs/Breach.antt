@@ -1,11 +1,10 @@
 -- The first number at which a rule is broken: a search for the first that fails a test finds it, it is the only one, and it says what the
 -- answer of a check says, "none" exactly where the rule is kept everywhere, and w exactly where w breaks it and none before does.
 -- Assumes nothing.
-use Prim.Native.Nat.{ℕ, _<_, _≤_}
+use Prim.Native.Nat.{ℕ, _<_}
 use native.Mathlib.Nat.{le-refl, lt-of-lt-of-le, lt-irrefl}
 use native.Mathlib.Omega.{arith}
-use native.Mathlib.Decide.{decLt}
-use mathlib.Core.Path.{_≡_, refl, sym, subst}
+use mathlib.Core.Path.{_≡_, subst}
 use mathlib.Core.Logic.{_↔_}
 use mathlib.Core.Bool.{Bool, true, false}
 use Rattle.laws.specs.Below.{firstOf}

@@ -1,18 +1,16 @@
 -- The tests of the link list and the propositions beside them say the same; a link joins its ends both ways.
 -- Assumes nothing.
 use Prim.Native.Nat.{ℕ, _<_}
-use native.Mathlib.Nat.{lt-of-lt-of-le}
 use native.Mathlib.Omega.{arith}
 use native.Mathlib.Decide.{decLt}
-use mathlib.Core.Path.{_≡_, refl, sym, _∙_, ap}
+use mathlib.Core.Path.{_≡_, refl, _∙_}
 use mathlib.Core.Bool.{Bool, true, false}
 use mathlib.Core.List.{List}
 use lib.ListN.{getD}
-use lib.Dec.{ltb, eqb}
+use lib.Dec.{eqb}
 use borrow.Author.Tests.{lt-ltb, ltb-true, eq-eqb, eqb-true}
-use Rattle.laws.specs.Choice.{ifB, ifEq}
 use Rattle.laws.specs.Below.{firstOf}
-use Rattle.laws.proofs.Choice.{ifB-yes, ifEq-yes, b-elim, eq-elim, true-not-false, not-true-false}
+use Rattle.laws.proofs.Choice.{ifB-yes, ifEq-yes, b-elim, eq-elim, true-not-false}
 use Rattle.laws.proofs.Below.{first-le, first-passes, first-below}
 use Rattle.links.specs.Links.{pairIs, joins, linkBetween, hasLink, Ends, straight, crossed, Linked}
 

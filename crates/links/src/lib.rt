@@ -1,7 +1,7 @@
-// The list of links of a network: which two nodes a link joins, and whether some link joins two nodes. What the whole-plan checks 6, 9 and 10 say of links is said here.
+// The list of links of a network: which two nodes a link joins, and whether some link joins two nodes. What the whole-plan checks
+// 6, 9 and 10 say of links is said here.
 ghost use mathlib.Core.Path.{_≡_};
 ghost use Prim.Native.Nat.{_≤_, min};
-ghost use lib.ListN.{getD};
 ghost use Rattle.links.specs.Links.{pairIs, joins, linkBetween, hasLink};
 
 // a and b are p and q, in this order.

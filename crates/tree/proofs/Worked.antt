@@ -1,14 +1,14 @@
 -- Worked values of checks 6 and 7: what the definitions answer on small plans, and on the longest chains.
 -- Assumes nothing.
-use Prim.Native.Nat.{ℕ, _-_, _+_, min}
+use Prim.Native.Nat.{_-_, _+_, min}
 use mathlib.Core.Path.{_≡_, refl}
-use mathlib.Core.List.{List, [], _∷_}
+use mathlib.Core.List.{[], _∷_}
 use Rattle.laws.specs.Choice.{ifB, ifLt, ifEq}
 use Rattle.laws.specs.Below.{firstOf, listBelow}
 use Rattle.network.specs.declared.Network.{Network}
 use Rattle.links.specs.Links.{pairIs, joins, linkBetween, hasLink}
 use Rattle.links.proofs.Worked.{network}
-use Rattle.tree.specs.Climb.{climb, rootFrom, lost, depthFrom, depthOf}
+use Rattle.tree.specs.Climb.{rootFrom, lost, depthFrom, depthOf}
 use Rattle.tree.specs.Checks.{untied, firstUntied, firstLost}
 
 -- "Two linked nodes, each the other's parent: 7, place 0"

@@ -37,11 +37,11 @@ unfoldable pub depthOf : (ℕ → ℕ) → ℕ → ℕ → ℕ
 depthOf up n p = depthFrom up n p
 
 -- what a walk comes to, in document 01's numbers: the root's number, or 64, which is no node's; and whether 7 applies
-unfoldable pub rootNumber : Climb → ℕ
+abbrev pub rootNumber : Climb → ℕ
 rootNumber (Root r) = r
 rootNumber None = 64
 
-unfoldable pub lost : Climb → Bool
+abbrev pub lost : Climb → Bool
 lost (Root r) = false
 lost None = true
 
