@@ -10,7 +10,7 @@ use lib.Dec.{ltb, eqb}
 use Rattle.laws.specs.Choice.{ifEq, both}
 use Rattle.laws.specs.Below.{countBelow, firstOf, overBelow}
 use Rattle.network.specs.declared.Network.{Network}
-use Rattle.links.specs.Links.{nodesOf, linksOf, joins, Ends}
+use Rattle.links.specs.Links.{nodesOf, linksOf, joins, SamePair}
 use Rattle.tree.specs.Climb.{parentIn, rootFrom, rootNumber}
 
 -- for each node the root of its cluster; 64 where its parents lead to none, and past the node count
@@ -75,7 +75,7 @@ Preferred net l = 0 < getD (net .flags) l 0
 
 -- link l joins the clusters x and y, in whichever order
 abbrev pub Between : Network → ℕ → ℕ → ℕ → Type 0
-Between net l x y = Ends (clusterOf net (getD (net .lowers) l 0)) (clusterOf net (getD (net .uppers) l 0)) x y
+Between net l x y = SamePair (clusterOf net (getD (net .lowers) l 0)) (clusterOf net (getD (net .uppers) l 0)) x y
 
 -- exactly one of the links is preferred and joins the clusters x and y
 pub record OnePreferred (net : Network) (x y : ℕ) : Type 0 where

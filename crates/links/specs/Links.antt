@@ -9,6 +9,7 @@ use lib.Dec.{ltb, eqb}
 use Rattle.laws.specs.Choice.{ifB, ifEq}
 use Rattle.laws.specs.Below.{firstOf}
 use Rattle.network.specs.declared.Network.{Network}
+use Rattle.network.specs.Sets.{Ends}
 
 -- how many nodes and links a network has. It holds at most 64 and 128; what it claims beyond that is not there to be read
 abbrev pub nodesOf : Network → ℕ
@@ -36,12 +37,12 @@ hasLink lowers uppers n p q = ltb (linkBetween lowers uppers n p q) n
 -- ---- the same as propositions
 
 -- a and b are p and q, in whichever order
-pub data Ends (a b p q : ℕ) : Type 0 where
-  straight : a ≡ p → b ≡ q → Ends a b p q
-  crossed : a ≡ q → b ≡ p → Ends a b p q
+pub data SamePair (a b p q : ℕ) : Type 0 where
+  straight : a ≡ p → b ≡ q → SamePair a b p q
+  crossed : a ≡ q → b ≡ p → SamePair a b p q
 
 -- some link of the n joins p and q
 pub record Linked (lowers uppers : List ℕ) (n p q : ℕ) : Type 0 where
   pub link : ℕ
   pub below : link < n
-  pub ends : Ends (getD lowers link 0) (getD uppers link 0) p q
+  pub ends : Ends lowers uppers link p q
