@@ -1,0 +1,3 @@
+pub mod Breach
+pub mod Links
+pub mod Worked
