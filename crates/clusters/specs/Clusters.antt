@@ -7,7 +7,7 @@ use mathlib.Core.Bool.{Bool, false, not}
 use mathlib.Core.List.{List}
 use lib.ListN.{getD, replicate}
 use lib.Dec.{ltb, eqb}
-use Rattle.laws.specs.Choice.{ifEq, both}
+use Rattle.laws.specs.Choice.{ifLt, ifEq, both}
 use Rattle.laws.specs.Below.{countBelow, firstOf, overBelow}
 use Rattle.network.specs.declared.Network.{Network}
 use Rattle.links.specs.Links.{nodesOf, linksOf, joins, SamePair}
@@ -21,16 +21,16 @@ abbrev pub rootTable : Network → List ℕ
 rootTable net = rootsOf (net .parents) (nodesOf net)
 
 -- a preferred link has the flag 1
-unfoldable pub preferred : List ℕ → ℕ → Bool
+abbrev pub preferred : List ℕ → ℕ → Bool
 preferred flags l = ltb 0 (getD flags l 0)
 
--- the cluster, by its root, of the end of link l that the list gives
-unfoldable pub clusterAt : List ℕ → List ℕ → ℕ → ℕ
-clusterAt roots ends l = getD roots (getD ends l 0) 64
+-- the root of p by the table; 64 for a number that has no entry
+unfoldable pub rootAt : List ℕ → ℕ → ℕ
+rootAt roots p = ifLt p 64 (getD roots p 0) 64
 
--- link l joins the clusters x and y, in whichever order
-unfoldable pub between : List ℕ → List ℕ → List ℕ → ℕ → ℕ → ℕ → Bool
-between roots lowers uppers l x y = joins (clusterAt roots lowers l) (clusterAt roots uppers l) x y
+-- the cluster of one end of link l, by its root
+abbrev pub clusterAt : List ℕ → List ℕ → ℕ → ℕ
+clusterAt roots ends l = rootAt roots (getD ends l 0)
 
 -- ---- 8: "preferred link inside a cluster"
 
@@ -44,10 +44,14 @@ firstInside net = firstOf (inside (rootTable net) (net .lowers) (net .uppers) (n
 
 -- ---- 9: "two joined clusters with none or several preferred"
 
--- how many of n links are preferred and join the clusters x and y
+-- link l is preferred and joins the clusters x and y, in whichever order
+unfoldable pub chosen : List ℕ → List ℕ → List ℕ → List ℕ → ℕ → ℕ → ℕ → Bool
+chosen roots lowers uppers flags l x y =
+    both (preferred flags l) (joins (clusterAt roots lowers l) (clusterAt roots uppers l) x y)
+
+-- how many of n links are
 unfoldable pub preferredBetween : List ℕ → List ℕ → List ℕ → List ℕ → ℕ → ℕ → ℕ → ℕ
-preferredBetween roots lowers uppers flags n x y =
-    countBelow (λ k. both (preferred flags k) (between roots lowers uppers k x y)) n
+preferredBetween roots lowers uppers flags n x y = countBelow (λ l. chosen roots lowers uppers flags l x y) n
 
 -- the two clusters have none or several
 unfoldable pub notOne : List ℕ → List ℕ → List ℕ → List ℕ → ℕ → ℕ → ℕ → Bool

@@ -19,7 +19,8 @@ use Rattle.network.specs.Sets.{Ends, rising, falling}
 use Rattle.links.specs.Links.{Linked}
 use Rattle.joined.specs.Joined.{follow, across, pass, joinedMarks, Joined, start, along}
 use Rattle.joined.proofs.Folds.{fold-gains, inserted-keeps, in-inserted, inserted-already}
-use Rattle.joined.proofs.Room.{count-at-most, count-inserted}
+use Rattle.links.proofs.Count.{count-at-most}
+use Rattle.joined.proofs.Room.{count-inserted}
 
 -- ---- one mark along a link
 
@@ -137,7 +138,7 @@ module _ (lowers uppers : List ℕ) (links nodes : ℕ) (fits : nodes ≤ 64) wh
     where
       at : (pass lowers uppers links nodes (after nodes) ≡ after nodes) ⊎ (nodes < count (after nodes)) → member (after nodes) q ≡ true
       at (inl e) = subst (λ x. member x q ≡ true) e (pass-adds p q (after nodes) l i h)
-      at (inr m) = absurd (omega (arith, count-at-most (after nodes) nodes))
+      at (inr m) = absurd (omega (arith, count-at-most (member (after nodes)) nodes))
 
   -- what every insert keeps is kept by the passes
   marks-hold : (P : ℕ → Type 0) → ((x q : ℕ) → P x → P (inserted x q)) → P (inserted 0 0) → P (joinedMarks lowers uppers links nodes)

@@ -8,18 +8,14 @@ use mathlib.Core.Bool.{false}
 use Rattle.laws.specs.Choice.{ifB, ifEq}
 use Rattle.laws.specs.Below.{countBelow}
 use Rattle.laws.proofs.Choice.{ifB-yes, ifB-no, b-elim, lt-elim, eq-elim}
-use Rattle.laws.proofs.Below.{sum-at-most, sum-but-one}
+use Rattle.laws.proofs.Below.{sum-but-one}
 use Rattle.nodeset.specs.Marks.{member, inserted, sizeOf}
 use Rattle.nodeset.proofs.Marks.{inserted-is-in, inserted-keeps-others}
+use Rattle.links.proofs.Count.{count-at-most}
 use Rattle.joined.specs.declared.Walk.{Walk}
 use Rattle.joined.specs.Walk.{listed, metOf, crossedOf}
 
--- how many of the numbers below n are in a set
-pub count-at-most : (m n : ℕ) → countBelow (member m) n ≤ n
-unfolding countBelow
-count-at-most m n =
-    omega (arith, sum-at-most (λ k. ifB (member m k) 1 0) 1 n (λ k _. b-elim (λ x. x ≤ 1) (member m k) 1 0 (λ _. omega arith) (λ _. omega arith)))
-
+-- a set with one more node has one more of the numbers below n
 pub count-inserted : (m n k : ℕ) → k < n → k < 64 → member m k ≡ false → countBelow (member (inserted m k)) n ≡ suc (countBelow (member m) n)
 unfolding countBelow
 count-inserted m n k h l o =
@@ -28,7 +24,7 @@ count-inserted m n k h l o =
 -- a set that lacks a number below 64 has fewer than 64
 pub room-left : (m q len : ℕ) → q < 64 → member m q ≡ false → len ≤ sizeOf m → len < 64
 unfolding sizeOf
-room-left m q len h o l = omega (arith, count-inserted m 64 q h h o, count-at-most (inserted m q) 64)
+room-left m q len h o l = omega (arith, count-inserted m 64 q h h o, count-at-most (member (inserted m q)) 64)
 
 -- the list is at most as long as the set is large
 abbrev pub Room : Walk → Type 0

@@ -19,11 +19,12 @@ use Rattle.nodeset.specs.Marks.{member, inserted, sizeOf}
 use Rattle.nodeset.proofs.Marks.{inserted-is-in, inserted-fits, empty-has-none}
 use Rattle.network.specs.Sets.{Ends, rising, falling}
 use Rattle.links.specs.Links.{Linked}
+use Rattle.links.proofs.Count.{count-at-most}
 use Rattle.joined.specs.declared.Walk.{Walk}
 use Rattle.joined.specs.Joined.{joinedMarks, Joined, start, along}
 use Rattle.joined.specs.Walk.{listed, metOf, crossedOf, visitedOf, takenOf}
 use Rattle.joined.proofs.Folds.{fold-gains, inserted-keeps, in-inserted}
-use Rattle.joined.proofs.Room.{Room, room-left, listed-room, count-at-most, count-inserted}
+use Rattle.joined.proofs.Room.{Room, room-left, listed-room, count-inserted}
 use Rattle.joined.proofs.Grow.{marks-unique}
 
 abbrev pub Seen : Walk → ℕ → Type 0
@@ -273,7 +274,7 @@ module _ (lowers uppers : List ℕ) (links nodes : ℕ) (fits : nodes ≤ 64) wh
   met-ahead : (q : ℕ) (w : Walk) → ahead (metOf nodes q w) ≤ ahead w
   unfolding metOf sizeOf
   met-ahead q w =
-      lt-elim (λ y. ahead y ≤ ahead w) q nodes (ifB (member (w .seen .marks) q) w (listed q w)) w (λ h. b-elim (λ y. ahead y ≤ ahead w) (member (w .seen .marks) q) w (listed q w) (λ _. le-refl (ahead w)) (λ o. omega (arith, count-inserted (w .seen .marks) 64 q (omega arith) (omega arith) o, count-at-most (inserted (w .seen .marks) q) 64))) (λ _. le-refl (ahead w))
+      lt-elim (λ y. ahead y ≤ ahead w) q nodes (ifB (member (w .seen .marks) q) w (listed q w)) w (λ h. b-elim (λ y. ahead y ≤ ahead w) (member (w .seen .marks) q) w (listed q w) (λ _. le-refl (ahead w)) (λ o. omega (arith, count-inserted (w .seen .marks) 64 q (omega arith) (omega arith) o, count-at-most (member (inserted (w .seen .marks) q)) 64))) (λ _. le-refl (ahead w))
 
   crossed-ahead : (p a b : ℕ) (w : Walk) → ahead (crossedOf nodes p a b w) ≤ ahead w
   unfolding crossedOf
@@ -289,4 +290,4 @@ module _ (lowers uppers : List ℕ) (links nodes : ℕ) (fits : nodes ≤ 64) wh
 -- the list fits its array
 pub list-within : (w : Walk) → Room w → w .len ≤ 64
 unfolding sizeOf
-list-within w r = omega (arith, count-at-most (w .seen .marks) 64)
+list-within w r = omega (arith, count-at-most (member (w .seen .marks)) 64)
