@@ -11,6 +11,7 @@ use Rattle.network.specs.declared.Network.{Network}
 use Rattle.records.specs.declared.Record.{Record}
 use Rattle.records.specs.declared.Record.the-variants.{End, Rounds, Node, Link}
 use Rattle.records.specs.declared.Read.the-variants.{Nothing, Unknown, Short}
+use Rattle.records.specs.Numbers.{accepted}
 use Rattle.records.specs.Record.{bodyLength, readAt}
 use Rattle.records.specs.Reader.{refusedWith, acceptedWith, listsOf}
 use Rattle.records.specs.Plan.{Plan, networkOf, Rising, Keeps1to5}
@@ -138,3 +139,13 @@ accepted-answer s n net A =
     ended-at : w + 1 ≡ n
     ended-at =
         omega (arith, length-take-le n s (A .within), ap length (A .bytes), ap length (plan-written p (K .some-round)), length-append bs (0 ∷ []))
+
+-- a refusal has a number of its own
+pub refused-is-no-0 : {s : List ℕ} {k w : ℕ} → Refused1to5 s k w → k ≡ accepted → ⊥
+refused-is-no-0 F = at-place (F .breaks)
+  where
+    at-place : {s : List ℕ} {w k : ℕ} {p : Plan} → BreaksAt s w p k → k ≡ accepted → ⊥
+    at-place (bytes-end e _) z = omega arith
+    at-place (unknown e _ _) z = omega arith
+    at-place (short e _ _ _) z = omega arith
+    at-place (whole r _ b) z = broken-is-no-0 b z
