@@ -66,6 +66,16 @@ sendsOne Does.TakesPacket = false
 sendsOne Does.TakesAck = false
 sendsOne Does.Means = false
 
+-- the action looks at a queue
+unfoldable pub moves : Does → Bool
+moves Does.Starts = false
+moves Does.Counts = false
+moves Does.SendsPacket = true
+moves Does.SendsAck = true
+moves Does.TakesPacket = true
+moves Does.TakesAck = true
+moves Does.Means = false
+
 -- an action's kind and body, where the action comes from a kind and two numbers: a body that names no link has one number
 pub record Named (k : Kind) (p q : ℕ) (a : Act) : Type 0 where
   pub kind : kindOf a ≡ k
