@@ -171,7 +171,7 @@ module _ (net : Network) (v : validNetwork net ≡ true) where
     -- ---- 15, 16 and 18
 
     module _ (a : Act) (e : seated net a ≡ true) (below : bodyOf a .p < net .nodes) where
-      own-read : countIn (s .counts) (ownIn (wiresOf net) (kindOf a) (bodyOf a .p) (bodyOf a .q)) ≡ countOf net s a
+      pub own-read : countIn (s .counts) (ownIn (wiresOf net) (kindOf a) (bodyOf a .p) (bodyOf a .q)) ≡ countOf net s a
       own-read = ap (countIn (s .counts)) (own-is net v a e) ∙ sym (count-read net v s a e)
 
       need-outcome : needAnswer (wiresOf net) s (kindOf a) (bodyOf a .p) (bodyOf a .q)

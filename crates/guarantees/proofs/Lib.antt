@@ -1,8 +1,14 @@
 pub mod Answers
+pub mod Choices
+pub mod Counting
 pub mod Directions
+pub mod Effects
 pub mod Links
+pub mod Means
 pub mod Members
+pub mod Messages
 pub mod Needs
 pub mod Seats
+pub mod Slots
 pub mod Tables
 pub mod Waiting

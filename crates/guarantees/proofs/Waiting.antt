@@ -151,6 +151,15 @@ ack-first [] = refl
 ack-first (packet v ∷ l) = refl
 ack-first (ack ∷ l) = refl
 
+-- where an ack is first, the queue is not empty
+pub ack-waits : (u : Queues) (d : ℕ) → ackAtFront (waitingOf u d) ≡ true → 0 < getD (u .lens) d 0
+unfolding ackAtFront listBelow
+ack-waits u d f = go (getD (u .lens) d 0) refl
+  where
+    go : (n : ℕ) → getD (u .lens) d 0 ≡ n → 0 < getD (u .lens) d 0
+    go zero e = absurd (false≢true (sym (ap ackAtFront (ap (listBelow (at u d)) e)) ∙ f))
+    go (suc n) e = omega arith
+
 -- in a valid state what waits first is a packet or an ack
 module _ (u : Queues) (d : ℕ) (sorted : 0 < getD (u .lens) d 0 → (getD (u .sorts) (d * 2) 0 ≡ 1) ⊎ (getD (u .sorts) (d * 2) 0 ≡ 2)) where
   rest : ℕ → List (Msg ℕ)
@@ -195,11 +204,3 @@ module _ (u : Queues) (d : ℕ) (sorted : 0 < getD (u .lens) d 0 → (getD (u .s
       go : (n : ℕ) → getD (u .lens) d 0 ≡ n → (0 < getD (u .lens) d 0) × ((old : ℕ) → carried (waitingOf u d) old ≡ getD (u .loads) (d * 2) 0)
       go zero e = absurd (false≢true (sym (ap packetAtFront (ap (listBelow (at u d)) e)) ∙ f))
       go (suc n) e = (omega arith, which n e (sorted (omega arith)))
-
-  pub ack-waits : ackAtFront (waitingOf u d) ≡ true → 0 < getD (u .lens) d 0
-  unfolding ackAtFront listBelow
-  ack-waits f = go (getD (u .lens) d 0) refl
-    where
-      go : (n : ℕ) → getD (u .lens) d 0 ≡ n → 0 < getD (u .lens) d 0
-      go zero e = absurd (false≢true (sym (ap ackAtFront (ap (listBelow (at u d)) e)) ∙ f))
-      go (suc n) e = omega arith
