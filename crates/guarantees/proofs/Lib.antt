@@ -1,4 +1,5 @@
 pub mod Answers
+pub mod Bridge
 pub mod Choices
 pub mod Counting
 pub mod Directions
@@ -10,5 +11,7 @@ pub mod Messages
 pub mod Needs
 pub mod Seats
 pub mod Slots
+pub mod Start
 pub mod Tables
 pub mod Waiting
+pub mod Whole
