@@ -9,6 +9,8 @@ pub mod Means
 pub mod Members
 pub mod Messages
 pub mod Needs
+pub mod Outcomes
+pub mod Records
 pub mod Seats
 pub mod Slots
 pub mod Start
