@@ -9,6 +9,7 @@ pub mod Means
 pub mod Members
 pub mod Messages
 pub mod Needs
+pub mod Only
 pub mod Outcomes
 pub mod Records
 pub mod Seats

@@ -34,9 +34,17 @@ use Rattle.guarantees.proofs.Records.{Found, found}
 use Rattle.guarantees.proofs.Bridge.{answer-is, after-is}
 
 -- what 17 lets pass
-in-range : (net : Network) (s : State) → inRange net s ≡ true → (validNetwork net ≡ true) × (validState net s ≡ true)
+pub in-range : (net : Network) (s : State) → inRange net s ≡ true → (validNetwork net ≡ true) × (validState net s ≡ true)
 unfolding inRange
 in-range net s e = (both-left _ _ e, both-right (validNetwork net) _ e)
+
+-- an action's answer and state, with the bytes that it read
+pub acted-as : (d : Done) (width : ℕ) → actedAs d width ≡ acted (d .answer) (ifEq (d .answer) 0 width 0) (d .state)
+unfolding actedAs
+acted-as d width =
+    eq-elim (λ (r : Acted). r ≡ acted (d .answer) (ifEq (d .answer) 0 width 0) (d .state)) (d .answer) 0 (acted 0 width (d .state)) (acted (d .answer) 0 (d .state))
+    (λ e i. acted (sym e i) (sym (ifEq-yes (d .answer) 0 width 0 e) i) (d .state))
+    (λ o i. acted (d .answer) (sym (ifEq-no (d .answer) 0 width 0 o) i) (d .state))
 
 -- ---- one action in a state within range
 
@@ -67,14 +75,6 @@ module _ (net : Network) (v : validNetwork net ≡ true) (s : State) (valid : va
     unknown : UnknownAt bytes at → r ≡ acted 11 0 s → Turn bytes at r
     cut : CutAt bytes at → r ≡ acted 12 0 s → Turn bytes at r
     judged : (a : Act) (width : ℕ) → Names bytes at a width → Judged net s a (r .answer) (r .state) → r .place ≡ ifEq (r .answer) 0 width 0 → Turn bytes at r
-
-  -- an action's answer and state, with the bytes that it read
-  acted-as : (d : Done) (width : ℕ) → actedAs d width ≡ acted (d .answer) (ifEq (d .answer) 0 width 0) (d .state)
-  unfolding actedAs
-  acted-as d width =
-      eq-elim (λ (r : Acted). r ≡ acted (d .answer) (ifEq (d .answer) 0 width 0) (d .state)) (d .answer) 0 (acted 0 width (d .state)) (acted (d .answer) 0 (d .state))
-      (λ e i. acted (sym e i) (sym (ifEq-yes (d .answer) 0 width 0 e) i) (d .state))
-      (λ o i. acted (d .answer) (sym (ifEq-no (d .answer) 0 width 0 o) i) (d .state))
 
   turn : (bytes : List ℕ) (at : ℕ) → Turn bytes at (actIn (wiresOf net) s bytes at)
   unfolding actIn recordIn
