@@ -2,6 +2,7 @@ pub mod Answers
 pub mod Bridge
 pub mod Choices
 pub mod Counting
+pub mod Demand3
 pub mod Directions
 pub mod Effects
 pub mod Links
@@ -11,6 +12,7 @@ pub mod Messages
 pub mod Needs
 pub mod Only
 pub mod Outcomes
+pub mod Reached
 pub mod Records
 pub mod Seats
 pub mod Slots
