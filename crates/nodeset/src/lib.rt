@@ -14,10 +14,10 @@ impl NodeSet {
         ensures { λ r. ⌜ r ≡ member (self .marks) node ⌝ }
     {
         let marks = self.marks;
-        if 64 <= node {
-            return false;
+        if node < 64 {
+            return (marks >> node) % 2 == 1;
         }
-        (marks >> node) % 2 == 1
+        false
     }
 
     // The set with one more node.
@@ -60,5 +60,18 @@ impl NodeSet {
         ensures { λ r. ⌜ r ≡ lowestOf (self .marks) ⌝ }
     {
         u64::trailing_zeros(self.marks)
+    }
+
+    // The set without its lowest member: one mask, and no look at the member.
+    pub fn without_lowest(self) -> NodeSet
+        ensures { λ r. ⌜ r .marks ≡ removed (self .marks) (lowestOf (self .marks)) ⌝ }
+    {
+        let marks = self.marks;
+        if marks == 0 {
+            return self;
+        }
+        NodeSet {
+            marks: marks & (marks - 1),
+        }
     }
 }

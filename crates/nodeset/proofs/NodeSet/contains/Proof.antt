@@ -15,4 +15,4 @@ unfolding member digit
 returns-2 c = search (needs, picks)
 
 pub contains-spec : {M : Type 1} → statement M
-contains-spec = tie.close (tie.spec returns (λ c. search needs) returns-2)
+contains-spec = tie.close (tie.spec (λ c. search needs) returns returns-2)

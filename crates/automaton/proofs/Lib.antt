@@ -1,0 +1,13 @@
+pub mod Board
+pub mod Chains
+pub mod Demand
+pub mod Effects
+pub mod Lines
+pub mod Links
+pub mod Lists
+pub mod Order
+pub mod Plans
+pub mod Room
+pub mod Runs
+pub mod Trees
+pub mod Values

@@ -1,0 +1,10 @@
+pub mod Accepted
+pub mod Actions
+pub mod Answer
+pub mod Clusters
+pub mod Global
+pub mod Lists
+pub mod Lockstep
+pub mod Needs
+pub mod Network
+pub mod Run

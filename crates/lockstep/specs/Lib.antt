@@ -1,0 +1,4 @@
+pub mod Rounds
+pub mod Rule
+pub mod Table
+pub mod Trials
