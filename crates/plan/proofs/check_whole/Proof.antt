@@ -1,8 +1,10 @@
 -- `check_whole`: each return is the branch of `checksOf` that the walks and tests before it lead to. The names bound below are the places after
 -- each walk and count, from the return back; what the code calls `untied` is by its contract what `checksOf` calls `firstUntied net`, and so on.
 -- Assumes nothing.
+use mathlib.Core.Path.{_∙_, ap}
 use borrow.Author.Needs.{needs}
 use Rattle.laws.proofs.Choice.{picks}
+use Rattle.records.specs.Reader.{answered}
 use Rattle.plan.specs.Checks.{checksOf}
 use Rattle.plan.proofs.check_whole.Statement.{statement}
 use Rattle.plan.proofs.check_whole.Tie as tie
@@ -13,7 +15,9 @@ returns c =
     let untied = c .before .before in
     let links = untied .before in
     let nodes = links .before in
-    rw (c .answer .ensures, nodes .before .zeros .ensures, ← untied .first-untied .ensures, ← nodes .at-most .ensures) (search (needs, picks) depth 8)
+    c .answer .ensures
+    ∙ ap (answered _ _) (nodes .before .zeros .ensures)
+    ∙ rw (← untied .first-untied .ensures, ← nodes .at-most .ensures) (search (needs, picks) depth 8)
 
 returns-2 : tie.Need-returns-2
 unfolding checksOf
@@ -22,7 +26,9 @@ returns-2 c =
     let untied = lost .before .before in
     let links = untied .before in
     let nodes = links .before in
-    rw (c .answer2 .ensures, nodes .before .zeros .ensures, ← lost .first-lost .ensures, ← untied .first-untied .ensures, ← nodes .at-most .ensures) (search (needs, picks) depth 8)
+    c .answer2 .ensures
+    ∙ ap (answered _ _) (nodes .before .zeros .ensures)
+    ∙ rw (← lost .first-lost .ensures, ← untied .first-untied .ensures, ← nodes .at-most .ensures) (search (needs, picks) depth 8)
 
 returns-3 : tie.Need-returns-3
 unfolding checksOf
@@ -32,7 +38,9 @@ returns-3 c =
     let untied = lost .before .before in
     let links = untied .before in
     let nodes = links .before in
-    rw (c .answer3 .ensures, nodes .before .zeros .ensures, ← inside .first-inside .ensures, ← lost .first-lost .ensures, ← untied .first-untied .ensures, ← nodes .at-most .ensures, ← links .at-most2 .ensures) (search (needs, picks) depth 8)
+    c .answer3 .ensures
+    ∙ ap (answered _ _) (nodes .before .zeros .ensures)
+    ∙ rw (← inside .first-inside .ensures, ← lost .first-lost .ensures, ← untied .first-untied .ensures, ← nodes .at-most .ensures, ← links .at-most2 .ensures) (search (needs, picks) depth 8)
 
 returns-4 : tie.Need-returns-4
 unfolding checksOf
@@ -43,7 +51,9 @@ returns-4 c =
     let untied = lost .before .before in
     let links = untied .before in
     let nodes = links .before in
-    rw (c .answer4 .ensures, nodes .before .zeros .ensures, ← not-one .first-not-one .ensures, ← inside .first-inside .ensures, ← lost .first-lost .ensures, ← untied .first-untied .ensures, ← nodes .at-most .ensures, ← links .at-most2 .ensures) (search (needs, picks) depth 8)
+    c .answer4 .ensures
+    ∙ ap (answered _ _) (nodes .before .zeros .ensures)
+    ∙ rw (← not-one .first-not-one .ensures, ← inside .first-inside .ensures, ← lost .first-lost .ensures, ← untied .first-untied .ensures, ← nodes .at-most .ensures, ← links .at-most2 .ensures) (search (needs, picks) depth 8)
 
 returns-5 : tie.Need-returns-5
 unfolding checksOf
@@ -55,7 +65,9 @@ returns-5 c =
     let untied = lost .before .before in
     let links = untied .before in
     let nodes = links .before in
-    rw (c .answer5 .ensures, nodes .before .zeros .ensures, ← unjoined .first-unjoined .ensures, ← not-one .first-not-one .ensures, ← inside .first-inside .ensures, ← lost .first-lost .ensures, ← untied .first-untied .ensures, ← nodes .at-most .ensures, ← links .at-most2 .ensures) (search (needs, picks) depth 8)
+    c .answer5 .ensures
+    ∙ ap (answered _ _) (nodes .before .zeros .ensures)
+    ∙ rw (← unjoined .first-unjoined .ensures, ← not-one .first-not-one .ensures, ← inside .first-inside .ensures, ← lost .first-lost .ensures, ← untied .first-untied .ensures, ← nodes .at-most .ensures, ← links .at-most2 .ensures) (search (needs, picks) depth 8)
 
 returns-6 : tie.Need-returns-6
 unfolding checksOf
@@ -67,7 +79,8 @@ returns-6 c =
     let untied = lost .before .before in
     let links = untied .before in
     let nodes = links .before in
-    rw (c .answer6 .ensures, ← unjoined .first-unjoined .ensures, ← not-one .first-not-one .ensures, ← inside .first-inside .ensures, ← lost .first-lost .ensures, ← untied .first-untied .ensures, ← nodes .at-most .ensures, ← links .at-most2 .ensures) (search (needs, picks) depth 8)
+    c .answer6 .ensures
+    ∙ rw (← unjoined .first-unjoined .ensures, ← not-one .first-not-one .ensures, ← inside .first-inside .ensures, ← lost .first-lost .ensures, ← untied .first-untied .ensures, ← nodes .at-most .ensures, ← links .at-most2 .ensures) (search (needs, picks) depth 8)
 
 pub check-whole-spec : {M : Type 1} → statement M
 check-whole-spec =
