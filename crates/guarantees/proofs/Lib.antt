@@ -1,0 +1,9 @@
+pub mod Directions
+pub mod Links
+pub mod Members
+pub mod Needs
+pub mod Plans
+pub mod Seats
+pub mod Tables
+pub mod Unique
+pub mod Waiting
