@@ -24,6 +24,10 @@ use Rattle.network.proofs.Network.with_sets.Kinds as network-with-sets-kinds
 use Rattle.network.proofs.Network.with_sets.Reads as network-with-sets-reads
 use Rattle.network.proofs.Network.valid.Kinds as network-valid-kinds
 use Rattle.network.proofs.Network.valid.Reads as network-valid-reads
+use Rattle.network.proofs.at_most.Kinds as network-at-most-kinds
+use Rattle.network.proofs.at_most.Reads as network-at-most-reads
+use Rattle.network.proofs.pair_rises.Kinds as network-pair-rises-kinds
+use Rattle.network.proofs.pair_rises.Reads as network-pair-rises-reads
 use Rattle.records.proofs.Cursor.read.Kinds as records-read-kinds
 use Rattle.records.proofs.Cursor.read.Reads as records-read-reads
 use Rattle.records.proofs.zeros.Kinds as records-zeros-kinds
@@ -34,8 +38,6 @@ use Rattle.records.proofs.read_lists.Kinds as records-read-lists-kinds
 use Rattle.records.proofs.read_lists.Reads as records-read-lists-reads
 use Rattle.links.proofs.joins.Kinds as links-joins-kinds
 use Rattle.links.proofs.joins.Reads as links-joins-reads
-use Rattle.links.proofs.at_most.Kinds as links-at-most-kinds
-use Rattle.links.proofs.at_most.Reads as links-at-most-reads
 use Rattle.links.proofs.has_link.Kinds as links-has-link-kinds
 use Rattle.links.proofs.has_link.Reads as links-has-link-reads
 use Rattle.tree.proofs.root_in.Kinds as tree-root-in-kinds
@@ -127,6 +129,12 @@ network-with-sets-one κs a x y s t p q = same p q
 pub network-valid-one : OneResult _ network-valid-kinds.ps network-valid-kinds.r network-valid-reads.Post
 network-valid-one κs a x y s t p q = same p q
 
+pub network-at-most-one : OneResult _ network-at-most-kinds.ps network-at-most-kinds.r network-at-most-reads.Post
+network-at-most-one κs a x y s t p q = same p q
+
+pub network-pair-rises-one : OneResult _ network-pair-rises-kinds.ps network-pair-rises-kinds.r network-pair-rises-reads.Post
+network-pair-rises-one κs a x y s t p q = same p q
+
 -- ---- records
 
 pub records-read-one : OneResult _ records-read-kinds.ps records-read-kinds.r records-read-reads.Post
@@ -145,9 +153,6 @@ records-read-lists-one κs a x y s t p q = same p q
 
 pub links-joins-one : OneResult _ links-joins-kinds.ps links-joins-kinds.r links-joins-reads.Post
 links-joins-one κs a x y s t p q = same p q
-
-pub links-at-most-one : OneResult _ links-at-most-kinds.ps links-at-most-kinds.r links-at-most-reads.Post
-links-at-most-one κs a x y s t p q = same p q
 
 pub links-has-link-one : OneResult _ links-has-link-kinds.ps links-has-link-kinds.r links-has-link-reads.Post
 links-has-link-one κs a x y s t p q = same p q
