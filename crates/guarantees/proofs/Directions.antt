@@ -1,10 +1,10 @@
 -- Every ordered pair of joined nodes has a direction of its own, below twice the number of links; and the table of directions, which is filled
 -- link by link, has it at 64 p + q. Each link fills two places, and no two links fill the same one, since no two have the same ends.
 -- Assumes nothing.
-use Prim.Native.Nat.{ℕ, zero, suc, _+_, _*_, _<_, _≤_}
+use Prim.Native.Nat.{ℕ, zero, suc, _+_, _*_, _/_, _%_, _<_, _≤_}
 use native.Mathlib.Nat.{not-suc-le-zero, le-refl}
 use native.Mathlib.Omega.{arith}
-use native.Mathlib.Decide.{decLt}
+use native.Mathlib.Decide.{decLt, ℕ-discrete}
 use mathlib.Core.Path.{_≡_, refl, sym, _∙_, ap, subst}
 use mathlib.Core.Bool.{Bool, true, false}
 use mathlib.Core.List.{List}
@@ -20,7 +20,7 @@ use Rattle.network.specs.Valid.{validNetwork}
 use Rattle.network.proofs.Valid.{valid-limits, valid-ranges, valid-order, one-link}
 use Rattle.synchronizer.specs.Wires.{joined, lanesOf, laneIn}
 use Rattle.guarantees.specs.Reading.{linkOf, joins, directionOf}
-use Rattle.guarantees.proofs.Links.{joined-ends, joined-below, nodes-below, link-is}
+use Rattle.guarantees.proofs.Links.{joined-ends, joined-below, joins-of, nodes-below, link-is}
 
 -- which of its link's two directions leads from p to q: 0 from the lower end, 1 from the upper
 abbrev side : ℕ → ℕ → ℕ
@@ -65,6 +65,30 @@ module _ (net : Network) (v : validNetwork net ≡ true) where
       at (falling a b) (falling c d) = (omega arith, omega arith)
       at (rising a b) (falling c d) = absurd (omega (arith, sides, up p q (omega (arith, rise)), down p′ q′ (omega (arith, rise))))
       at (falling a b) (rising c d) = absurd (omega (arith, sides, down p q (omega (arith, rise)), up p′ q′ (omega (arith, rise))))
+
+  -- every number below twice the links is the direction of some pair
+  pub direction-of : (d : ℕ) → d < net .links * 2 → (p : ℕ) × (q : ℕ) × (joins net p q ≡ true) × (directionOf net p q ≡ d)
+  unfolding directionOf
+  direction-of d h = at (ℕ-discrete (d % 2) 0)
+    where
+      l : ℕ
+      l = d / 2
+
+      in-list : l < net .links
+      in-list = omega arith
+
+      rise : getD (net .lowers) l 0 < getD (net .uppers) l 0
+      rise = valid-order net v .ends-rise l in-list
+
+      found : (p q : ℕ) → Ends (net .lowers) (net .uppers) l p q → side p q ≡ d % 2 → (p : ℕ) × (q : ℕ) × (joins net p q ≡ true) × (linkOf net p q * 2 + side p q ≡ d)
+      found p q ends which = (p, q, joins-of net v l p q in-list ends, omega (arith, link-is net v l p q in-list ends))
+
+      at : Dec (d % 2 ≡ 0) → (p : ℕ) × (q : ℕ) × (joins net p q ≡ true) × (linkOf net p q * 2 + side p q ≡ d)
+      at (yes e) =
+          found (getD (net .lowers) l 0) (getD (net .uppers) l 0) (rising refl refl) (up (getD (net .lowers) l 0) (getD (net .uppers) l 0) rise ∙ sym e)
+      at (no o) =
+          found (getD (net .uppers) l 0) (getD (net .lowers) l 0) (falling refl refl)
+          (omega (arith, down (getD (net .uppers) l 0) (getD (net .lowers) l 0) (omega (arith, rise))))
 
   -- ---- the table of directions
 

@@ -11,7 +11,7 @@ use Rattle.laws.proofs.Below.{all-same}
 use Rattle.nodeset.specs.Marks.{member, allIn, membersOf}
 use Rattle.automaton.specs.Lists.{every}
 
-both-true : (t : Bool) → both t true ≡ t
+pub both-true : (t : Bool) → both t true ≡ t
 unfolding both ifB
 both-true true = refl
 both-true false = refl

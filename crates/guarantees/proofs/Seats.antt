@@ -31,7 +31,7 @@ use Rattle.guarantees.proofs.Tables.{actionOf, placeAs, named, rowOf, b
 abbrev pub counterOf : Network → Act → Counter
 counterOf net a = count (kindOf a) (seatOf net a)
 
-place-is : (a : Act) → bodyOf a .place ≡ placeAs (placeOf (kindOf a))
+pub place-is : (a : Act) → bodyOf a .place ≡ placeAs (placeOf (kindOf a))
 place-is a = ap (λ b. b .place) (body-is a)
 
 second-is : (a : Act) → bodyOf a .q ≡ ifB (namesLink (bodyOf a .place)) (bodyOf a .q) (bodyOf a .p)

@@ -66,6 +66,16 @@ sendsOne Does.TakesPacket = false
 sendsOne Does.TakesAck = false
 sendsOne Does.Means = false
 
+-- the action looks at a queue
+unfoldable pub moves : Does → Bool
+moves Does.Starts = false
+moves Does.Counts = false
+moves Does.SendsPacket = true
+moves Does.SendsAck = true
+moves Does.TakesPacket = true
+moves Does.TakesAck = true
+moves Does.Means = false
+
 -- an action's kind and body, where the action comes from a kind and two numbers: a body that names no link has one number
 pub record Named (k : Kind) (p q : ℕ) (a : Act) : Type 0 where
   pub kind : kindOf a ≡ k
@@ -181,3 +191,47 @@ rowOf (input p) = record { rebuilt = refl; starts = refl; sending = refl; fittin
 -- the place of an action is that of its kind, and where it names no link its two numbers are one
 pub body-is : (a : Act) → bodyOf a ≡ two (placeAs (placeOf (kindOf a))) (bodyOf a .p) (ifB (namesLink (placeAs (placeOf (kindOf a)))) (bodyOf a .q) (bodyOf a .p))
 body-is a = ap bodyOf (sym (rowOf a .rebuilt)) ∙ named (kindOf a) (bodyOf a .p) (bodyOf a .q) .body
+
+-- ---- what an action does besides counting
+
+-- nothing
+unfoldable pub quiet : Does → Bool
+quiet Does.Starts = true
+quiet Does.Counts = true
+quiet Does.SendsPacket = false
+quiet Does.SendsAck = false
+quiet Does.TakesPacket = false
+quiet Does.TakesAck = false
+quiet Does.Means = false
+
+-- five actions do something
+pub data Doing : Act → Type 0 where
+  packetJoins : (p q : ℕ) → Doing (packetSent p q)
+  packetLeaves : (p q : ℕ) → Doing (packetDelivered p q)
+  ackJoins : (p q : ℕ) → Doing (ackSent p q)
+  ackLeaves : (p q : ℕ) → Doing (ackDelivered p q)
+  means : (p : ℕ) → Doing (input p)
+  nothing : {a : Act} → quiet (doesOf (kindOf a)) ≡ true → Doing a
+
+pub doing : (a : Act) → Doing a
+unfolding quiet doesOf kindOf
+doing (output p) = nothing refl
+doing (packetSent p q) = packetJoins p q
+doing (packetDelivered p q) = packetLeaves p q
+doing (ackSent p q) = ackJoins p q
+doing (ackDelivered p q) = ackLeaves p q
+doing (ok p) = nothing refl
+doing (subtreeOkSent p) = nothing refl
+doing (subtreeOkDelivered p) = nothing refl
+doing (clusterOk p) = nothing refl
+doing (downSent p) = nothing refl
+doing (downDelivered p) = nothing refl
+doing (preferredSent p q) = nothing refl
+doing (preferredDelivered p q) = nothing refl
+doing (upSent p) = nothing refl
+doing (upDelivered p) = nothing refl
+doing (clusterGo p) = nothing refl
+doing (subtreeGoSent p) = nothing refl
+doing (subtreeGoDelivered p) = nothing refl
+doing (go p) = nothing refl
+doing (input p) = means p

@@ -6,7 +6,7 @@ use native.Mathlib.Nat.{le-refl, add-zero, not-suc-le-zero}
 use native.Mathlib.Numerals.{add-one}
 use native.Mathlib.Omega.{arith}
 use mathlib.Core.Path.{_≡_, refl, sym, _∙_, ap, ap₂, subst}
-use mathlib.Core.Bool.{Bool, true, false}
+use mathlib.Core.Bool.{Bool, true, false, false≢true}
 use mathlib.Core.List.{List, [], _∷_, _++_, tail}
 use mathlib.Core.Logic.{_⊎_, inl, inr, ⊎-elim}
 use lib.ListN.{length, getD, set, length-set}
@@ -133,30 +133,74 @@ module _ (u : Queues) (d : ℕ) (inside : d < 256) (lens : length (u .lens) ≡ 
 
 -- ---- what is first in direction d
 
--- in a valid state what waits is a packet or an ack
+-- the code's word for what stands at the head of a list
+unfoldable pub headFrom : List (Msg ℕ) → Head
+headFrom [] = Head.Empty
+headFrom (packet v ∷ l) = Head.Packet v
+headFrom (ack ∷ l) = Head.Ack
+
+pub packet-first : (l : List (Msg ℕ)) → Code.packetFirst (headFrom l) ≡ must (packetAtFront l) 16 0
+unfolding Code.packetFirst headFrom must ifB packetAtFront
+packet-first [] = refl
+packet-first (packet v ∷ l) = refl
+packet-first (ack ∷ l) = refl
+
+pub ack-first : (l : List (Msg ℕ)) → Code.ackFirst (headFrom l) ≡ must (ackAtFront l) 16 0
+unfolding Code.ackFirst headFrom must ifB ackAtFront
+ack-first [] = refl
+ack-first (packet v ∷ l) = refl
+ack-first (ack ∷ l) = refl
+
+-- where an ack is first, the queue is not empty
+pub ack-waits : (u : Queues) (d : ℕ) → ackAtFront (waitingOf u d) ≡ true → 0 < getD (u .lens) d 0
+unfolding ackAtFront listBelow
+ack-waits u d f = go (getD (u .lens) d 0) refl
+  where
+    go : (n : ℕ) → getD (u .lens) d 0 ≡ n → 0 < getD (u .lens) d 0
+    go zero e = absurd (false≢true (sym (ap ackAtFront (ap (listBelow (at u d)) e)) ∙ f))
+    go (suc n) e = omega arith
+
+-- in a valid state what waits first is a packet or an ack
 module _ (u : Queues) (d : ℕ) (sorted : 0 < getD (u .lens) d 0 → (getD (u .sorts) (d * 2) 0 ≡ 1) ⊎ (getD (u .sorts) (d * 2) 0 ≡ 2)) where
-  -- the queue is empty, or its head is a packet with the load of the first place, or an ack
-  data First : Type 0 where
-    nothing : getD (u .lens) d 0 ≡ 0 → waitingOf u d ≡ [] → First
-    aPacket : 0 < getD (u .lens) d 0 → getD (u .sorts) (d * 2) 0 ≡ 1 → (rest : List (Msg ℕ)) → waitingOf u d ≡ packet (getD (u .loads) (d * 2) 0) ∷ rest → First
-    anAck : 0 < getD (u .lens) d 0 → getD (u .sorts) (d * 2) 0 ≡ 2 → (rest : List (Msg ℕ)) → waitingOf u d ≡ ack ∷ rest → First
+  rest : ℕ → List (Msg ℕ)
+  rest n = listBelow (λ k. at u d (suc k)) n
 
-  first : First
-  unfolding messageOf listBelow
-  first = go (getD (u .lens) d 0) refl
+  waits : (n : ℕ) → getD (u .lens) d 0 ≡ suc n → waitingOf u d ≡ messageOf (getD (u .sorts) (d * 2) 0) (getD (u .loads) (d * 2) 0) ∷ rest n
+  unfolding rest
+  waits n e =
+      ap (listBelow (at u d)) e ∙ list-cons (at u d) n
+      ∙ ap (λ i. messageOf (getD (u .sorts) i 0) (getD (u .loads) i 0) ∷ rest n) (add-zero (d * 2))
+
+  pub head-is : headOf (u .lens) (u .sorts) (u .loads) d ≡ headFrom (waitingOf u d)
+  unfolding headOf headFrom messageOf listBelow
+  head-is = go (getD (u .lens) d 0) refl
     where
-      rest : ℕ → List (Msg ℕ)
-      rest n = listBelow (λ k. at u d (suc k)) n
+      later : Head
+      later =
+          ifEq (getD (u .sorts) (d * 2) 0) 1 (Head.Packet (getD (u .loads) (d * 2) 0)) (ifEq (getD (u .sorts) (d * 2) 0) 2 Head.Ack Head.Empty)
 
-      head : (n : ℕ) → getD (u .lens) d 0 ≡ suc n → waitingOf u d ≡ messageOf (getD (u .sorts) (d * 2) 0) (getD (u .loads) (d * 2) 0) ∷ rest n
-      head n e =
-          ap (listBelow (at u d)) e ∙ list-cons (at u d) n
-          ∙ ap (λ i. messageOf (getD (u .sorts) i 0) (getD (u .loads) i 0) ∷ rest n) (add-zero (d * 2))
+      which : (n : ℕ) → (getD (u .sorts) (d * 2) 0 ≡ 1) ⊎ (getD (u .sorts) (d * 2) 0 ≡ 2) → later ≡ headFrom (messageOf (getD (u .sorts) (d * 2) 0) (getD (u .loads) (d * 2) 0) ∷ rest n)
+      which n (inl s) = ifEq-yes _ 1 _ _ s ∙ ap (λ x. headFrom (x ∷ rest n)) (sym (ifEq-yes _ 1 _ ack s))
+      which n (inr s) =
+          let other : getD (u .sorts) (d * 2) 0 ≡ 1 → ⊥ = (λ t. omega arith) in
+          ifEq-no _ 1 _ _ other ∙ ifEq-yes _ 2 _ _ s ∙ ap (λ x. headFrom (x ∷ rest n)) (sym (ifEq-no _ 1 (packet _) ack other))
 
-      which : (n : ℕ) → getD (u .lens) d 0 ≡ suc n → (getD (u .sorts) (d * 2) 0 ≡ 1) ⊎ (getD (u .sorts) (d * 2) 0 ≡ 2) → First
-      which n e (inl s) = aPacket (omega arith) s (rest n) (head n e ∙ ap (λ x. x ∷ rest n) (ifEq-yes _ 1 _ ack s))
-      which n e (inr s) = anAck (omega arith) s (rest n) (head n e ∙ ap (λ x. x ∷ rest n) (ifEq-no _ 1 (packet _) ack (λ t. omega arith)))
+      go : (n : ℕ) → getD (u .lens) d 0 ≡ n → ifEq (getD (u .lens) d 0) 0 Head.Empty later ≡ headFrom (waitingOf u d)
+      go zero e = ifEq-yes _ 0 _ _ e ∙ ap headFrom (sym (ap (listBelow (at u d)) e))
+      go (suc n) e = ifEq-no _ 0 _ _ (λ z. omega arith) ∙ which n (sorted (omega arith)) ∙ ap headFrom (sym (waits n e))
 
-      go : (n : ℕ) → getD (u .lens) d 0 ≡ n → First
-      go zero e = nothing e (ap (listBelow (at u d)) e)
-      go (suc n) e = which n e (sorted (omega arith))
+  -- where a packet is first, the value that it carries is the load of the first place, and the queue is not empty
+  pub packet-carries : packetAtFront (waitingOf u d) ≡ true → (0 < getD (u .lens) d 0) × ((old : ℕ) → carried (waitingOf u d) old ≡ getD (u .loads) (d * 2) 0)
+  unfolding packetAtFront carried messageOf listBelow
+  packet-carries f = go (getD (u .lens) d 0) refl
+    where
+      which : (n : ℕ) → getD (u .lens) d 0 ≡ suc n → (getD (u .sorts) (d * 2) 0 ≡ 1) ⊎ (getD (u .sorts) (d * 2) 0 ≡ 2) → (old : ℕ) → carried (waitingOf u d) old ≡ getD (u .loads) (d * 2) 0
+      which n e (inl s) old =
+          ap (λ l. carried l old) (waits n e ∙ ap (λ x. x ∷ rest n) (ifEq-yes _ 1 _ ack s))
+      which n e (inr s) old =
+          let there = waits n e ∙ ap (λ x. x ∷ rest n) (ifEq-no _ 1 (packet _) ack (λ t. omega arith)) in
+          absurd (false≢true (sym (ap packetAtFront there) ∙ f))
+
+      go : (n : ℕ) → getD (u .lens) d 0 ≡ n → (0 < getD (u .lens) d 0) × ((old : ℕ) → carried (waitingOf u d) old ≡ getD (u .loads) (d * 2) 0)
+      go zero e = absurd (false≢true (sym (ap packetAtFront (ap (listBelow (at u d)) e)) ∙ f))
+      go (suc n) e = (omega arith, which n e (sorted (omega arith)))
