@@ -5,6 +5,7 @@ pub mod Counting
 pub mod Demand3
 pub mod Directions
 pub mod Effects
+pub mod Exactly
 pub mod Links
 pub mod Means
 pub mod Members
@@ -12,11 +13,13 @@ pub mod Messages
 pub mod Needs
 pub mod Only
 pub mod Outcomes
+pub mod Plans
 pub mod Reached
 pub mod Records
 pub mod Seats
 pub mod Slots
 pub mod Start
 pub mod Tables
+pub mod Unique
 pub mod Waiting
 pub mod Whole
