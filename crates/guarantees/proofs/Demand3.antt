@@ -3,10 +3,9 @@
 -- outputs of two nodes in one cluster, or in two clusters joined by a link, differ by at most one; and 18 is never answered.
 -- Assumes nothing.
 use Prim.Native.Nat.{ℕ, suc, _<_, _≤_}
-use native.Mathlib.Omega.{arith}
-use mathlib.Core.Path.{_≡_, refl, sym, _∙_, ap, subst}
-use mathlib.Core.Bool.{Bool, true}
-use mathlib.Core.List.{List, _++_}
+use mathlib.Core.Path.{_≡_, sym, _∙_, ap, subst}
+use mathlib.Core.Bool.{true}
+use mathlib.Core.List.{List}
 use lib.ListN.{length, getD}
 use Rattle.network.specs.declared.Network.{Network}
 use Rattle.network.specs.Valid.{validNetwork}

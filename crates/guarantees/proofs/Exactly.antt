@@ -1,9 +1,9 @@
 -- Which answer a single action from bytes gets, number by number, each exactly under its condition: 0 exactly if the bytes begin with a record that
 -- names an action which the automaton takes, and then the state that follows is read as the automaton's.
 -- Assumes nothing.
-use Prim.Native.Nat.{ℕ, _<_, _≤_}
+use Prim.Native.Nat.{ℕ, _<_}
 use native.Mathlib.Omega.{arith}
-use mathlib.Core.Path.{_≡_, refl, sym, _∙_, ap, subst}
+use mathlib.Core.Path.{_≡_, refl, sym, _∙_, ap}
 use mathlib.Core.Bool.{Bool, true, false, not}
 use mathlib.Core.List.{List}
 use mathlib.Core.Logic.{_↔_}
@@ -24,7 +24,7 @@ use Rattle.automaton.specs.Answer.{must, known, legal, inTime, enabled, room, a
 use Rattle.automaton.specs.Run.{after, step}
 use Rattle.guarantees.specs.Reading.{netOf, kindOf, read}
 use Rattle.guarantees.specs.Outcome as Outcome
-use Rattle.guarantees.specs.Outcome.{Judged, Names, UnknownAt, CutAt, ActOutcome}
+use Rattle.guarantees.specs.Outcome.{Names, UnknownAt, CutAt, ActOutcome}
 use Rattle.guarantees.proofs.Outcomes.{in-range, judged-in, act-outcome}
 use Rattle.guarantees.proofs.Only.{act-is, refused-same}
 
