@@ -1,3 +1,4 @@
+pub mod Bridge
 pub mod Outcome
 pub mod Reading
 pub mod Steps
