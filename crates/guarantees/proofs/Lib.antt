@@ -17,6 +17,7 @@ pub mod Seats
 pub mod Slots
 pub mod Start
 pub mod Tables
+pub mod Trials
 pub mod Unique
 pub mod Waiting
 pub mod Whole
