@@ -2,8 +2,10 @@ pub mod Answers
 pub mod Bridge
 pub mod Choices
 pub mod Counting
+pub mod Demand3
 pub mod Directions
 pub mod Effects
+pub mod Exactly
 pub mod Links
 pub mod Means
 pub mod Members
@@ -12,6 +14,7 @@ pub mod Needs
 pub mod Only
 pub mod Outcomes
 pub mod Plans
+pub mod Reached
 pub mod Records
 pub mod Seats
 pub mod Slots
