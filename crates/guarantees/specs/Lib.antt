@@ -1,3 +1,4 @@
+pub mod Among
 pub mod Outcome
 pub mod Reading
 pub mod Steps
