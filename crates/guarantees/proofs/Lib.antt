@@ -2,6 +2,7 @@ pub mod Answers
 pub mod Bridge
 pub mod Choices
 pub mod Counting
+pub mod Demand
 pub mod Demand1
 pub mod Demand3
 pub mod Directions
