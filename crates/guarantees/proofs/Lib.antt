@@ -26,3 +26,4 @@ pub mod Trials
 pub mod Unique
 pub mod Waiting
 pub mod Whole
+pub mod Witnesses

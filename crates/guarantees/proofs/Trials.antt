@@ -42,7 +42,7 @@ use Rattle.guarantees.specs.Trials.{Trial, End, trial, end, ended, given
 use Rattle.guarantees.specs.Trials.{T-lockstep, P-lockstep-1, P-lockstep-2, P-lockstep-3, early-packet, ok-with-no-ack, second-output-of-1, second-output-of-2, packet-0-to-2, node-7, empty-plan, each-the-others-parent, two-roots-no-link}
 
 -- from the start state of a valid network the list is run with no further look at 17
-from-start : (net : Network) (bytes : List ℕ) → length (net .starts) ≡ 64 → validNetwork net ≡ true → listOf net (startOf net .state) bytes ≡ listFrom (suc (length bytes)) (wiresOf net) (freshWith (net .starts)) bytes 0 0
+pub from-start : (net : Network) (bytes : List ℕ) → length (net .starts) ≡ 64 → validNetwork net ≡ true → listOf net (startOf net .state) bytes ≡ listFrom (suc (length bytes)) (wiresOf net) (freshWith (net .starts)) bytes 0 0
 unfolding listOf inRange startOf
 from-start net bytes l v =
     ifB-yes _ _ _ (both-yes _ _ v (start-valid net l v .0))
