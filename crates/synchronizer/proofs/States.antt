@@ -4,14 +4,13 @@
 use Prim.Native.Nat.{ℕ, zero, suc, _+_, _*_, _/_, _%_, _<_, _≤_}
 use native.Mathlib.Nat.{add-zero}
 use native.Mathlib.Omega.{arith}
-use mathlib.Core.Path.{_≡_, refl, sym, _∙_, ap, subst}
-use mathlib.Core.Bool.{Bool, true, false}
-use mathlib.Core.List.{List}
+use mathlib.Core.Path.{_≡_, refl, sym, _∙_, subst}
+use mathlib.Core.Bool.{true, false}
 use mathlib.Core.Logic.{_⊎_, inl, inr}
 use lib.Dec.{leb, eqb}
 use lib.ListN.{length, getD}
 use borrow.Author.Tests.{leb-true, le-leb, eqb-true, eq-eqb}
-use Rattle.laws.specs.Choice.{ifB, ifLt, ifEq, both}
+use Rattle.laws.specs.Choice.{ifLt, ifEq, both}
 use Rattle.laws.specs.Below.{allBelow}
 use Rattle.laws.proofs.Choice.{ifLt-yes, ifLt-no, ifEq-yes, ifEq-no, lt-elim, eq-elim, both-yes, both-left, both-right, true-not-false}
 use Rattle.laws.proofs.Below.{all-at, all-of}
@@ -25,7 +24,7 @@ use Rattle.actions.proofs.Numbers.{seated}
 use Rattle.synchronizer.specs.declared.State.{State}
 use Rattle.synchronizer.specs.Answer.{countIn, packet, ack}
 use Rattle.synchronizer.specs.After.{Queues, queues}
-use Rattle.synchronizer.specs.Valid.{usedBy, entryFits, rowFits, countsFit, lengthsFit, messageFits, queueFits, queuesFit, pastFits, restFits, stateFits, validState, CountsInRounds, QueuesInOrder, RestIsZero, StateClauses}
+use Rattle.synchronizer.specs.Valid.{usedBy, entryFits, rowFits, countsFit, lengthsFit, messageFits, queueFits, queuesFit, pastFits, restFits, stateFits, validState, StateClauses}
 
 -- ---- the tests of one entry, and what each says
 
@@ -36,6 +35,11 @@ entry-in {most} {used} {x} {n} e h = omega (arith, leb-true n (ifLt x used most 
 pub entry-out : (most : ℕ) {used x n : ℕ} → entryFits most used x n ≡ true → used ≤ x → n ≡ 0
 unfolding entryFits
 entry-out most {used} {x} {n} e h = omega (arith, leb-true n (ifLt x used most 0) e, ifLt-no x used most 0 h)
+
+pub entry-most : (most used x : ℕ) {n : ℕ} → entryFits most used x n ≡ true → n ≤ most
+unfolding entryFits
+entry-most most used x {n} e =
+    lt-elim (λ m. n ≤ m → n ≤ most) x used most 0 (λ _ h. h) (λ _ h. omega arith) (leb-true n (ifLt x used most 0) e)
 
 pub entry-of : {most used x n : ℕ} → (x < used → n ≤ most) → (used ≤ x → n ≡ 0) → entryFits most used x n ≡ true
 unfolding entryFits
