@@ -30,13 +30,13 @@ use Rattle.synchronizer.specs.declared.Done.{Done}
 use Rattle.synchronizer.specs.declared.Acted.{Acted}
 use Rattle.synchronizer.specs.declared.Ran.{Ran}
 use Rattle.synchronizer.specs.Wires.{Wires, wiresOf, laneIn, aroundOf}
-use Rattle.synchronizer.specs.Answer.{countIn, packet, ack, startsRound, ownIn, answerOf}
+use Rattle.synchronizer.specs.Answer.{countIn, packet, ack, startsRound, ownIn, answerIn, answerOf}
 use Rattle.synchronizer.specs.After.{Queues, queues, pushed, popped, slotAt, meanHeard, effectIn, counted, afterIn, afterOf}
 use Rattle.synchronizer.specs.Start.{freshWith, startOf}
 use Rattle.synchronizer.specs.Entry.{done, inRange, doneIn, doneOf, actedAs, recordIn, actIn, actOf, listFrom, listOf}
 use Rattle.synchronizer.specs.Valid.{usedBy, entryFits, pastFits, validState, Sized}
 use Rattle.synchronizer.proofs.Entries.{set-keeps-at, repeated-at}
-use Rattle.synchronizer.proofs.States.{a-packet, an-ack, entry-of, entry-most, message-of, past-of, QueuesPass, Passes, valid-passes, passes-valid, used-at-most-256}
+use Rattle.synchronizer.proofs.States.{a-packet, an-ack, entry-of, entry-most, sort-of, load-of, past-of, QueuesPass, Passes, valid-passes, passes-valid, used-at-most-256}
 use Rattle.synchronizer.proofs.Waiting.{QueuesLong, pushed-keeps, popped-keeps}
 use Rattle.synchronizer.proofs.Taken.{Taken, answer-0-taken, count-may-rise, taken-lane, taken-own}
 
@@ -141,9 +141,9 @@ module _ (net : Network) (v : validNetwork net ≡ true) (w : Wires) where
       at Does.Starts hd = kept
       at Does.Counts hd = kept
       at Does.SendsPacket hd =
-          kept-with s kept (pushed u d packet (getD (s .values) p 0)) (s .slots) (s .values) (pushed-keeps (net .links) u (kept .0 .queued) long d packet (getD (s .values) p 0) (valid-limits net v .at-most-128-links) (hd refl) (a-packet refl)) (kept .0 .slot) (kept .1 .slots) (kept .0 .value) (kept .1 .values)
+          kept-with s kept (pushed u d packet (getD (s .values) p 0)) (s .slots) (s .values) (pushed-keeps (net .links) u (kept .0 .queued) long d packet (getD (s .values) p 0) (valid-limits net v .at-most-128-links) (hd refl) (a-packet refl) (load-of (λ no-packet. absurd (no-packet refl)))) (kept .0 .slot) (kept .1 .slots) (kept .0 .value) (kept .1 .values)
       at Does.SendsAck hd =
-          kept-with s kept (pushed u d ack 0) (s .slots) (s .values) (pushed-keeps (net .links) u (kept .0 .queued) long d ack 0 (valid-limits net v .at-most-128-links) (hd refl) (an-ack refl refl)) (kept .0 .slot) (kept .1 .slots) (kept .0 .value) (kept .1 .values)
+          kept-with s kept (pushed u d ack 0) (s .slots) (s .values) (pushed-keeps (net .links) u (kept .0 .queued) long d ack 0 (valid-limits net v .at-most-128-links) (hd refl) (an-ack refl) (load-of (λ _. refl))) (kept .0 .slot) (kept .1 .slots) (kept .0 .value) (kept .1 .values)
       at Does.TakesPacket hd =
           kept-with s kept (popped u d) (set (s .slots) (slotAt d i) (getD (s .loads) (d * 2) 0)) (s .values) (popped-keeps (net .links) u (kept .0 .queued) long d) (set-keeps-at (λ x n. x < 512 → pastFits (net .links * 4) x n ≡ true) (s .slots) (slotAt d i) (getD (s .loads) (d * 2) 0) 0 (λ _. past-of (λ past. absurd (omega (arith, hd refl)))) (kept .0 .slot)) (length-set (s .slots) (slotAt d i) (getD (s .loads) (d * 2) 0) ∙ kept .1 .slots) (kept .0 .value) (kept .1 .values)
       at Does.TakesAck hd =
@@ -231,11 +231,27 @@ module _ (net : Network) (s : State) (h : Sound net s) where
 
 -- ---- a refusal hands the state back
 
+done-in-refused : (w : Wires) (s : State) (k : Kind) (p q : ℕ) → 0 < doneIn w s k p q .answer → doneIn w s k p q .state ≡ s
+unfolding doneIn
+done-in-refused w s k p q =
+    eq-elim {A = Done} (λ r. 0 < r .answer → r .state ≡ s) (answerIn w s k p q) 0 _ _ (λ _ h. absurd (omega arith)) (λ _ _. refl)
+
+act-in-refused : (w : Wires) (s : State) (r : Record) → 0 < recordIn w s r .answer → recordIn w s r .state ≡ s
+unfolding recordIn actedAs
+act-in-refused w s Record.Unknown = λ _. refl
+act-in-refused w s Record.Short = λ _. refl
+act-in-refused w s (Record.Act k p q width) =
+    eq-elim {A = Acted} (λ r. 0 < r .answer → r .state ≡ s) (doneIn w s k p q .answer) 0 _ _ (λ _ h. absurd (omega arith)) (λ _. done-in-refused w s k p q)
+
 pub done-refused : (net : Network) (s : State) (k : Kind) (p q : ℕ) → 0 < doneOf net s k p q .answer → doneOf net s k p q .state ≡ s
-unfolding doneOf doneIn
+unfolding doneOf
 done-refused net s k p q =
-    b-elim {A = Done} (λ r. 0 < r .answer → r .state ≡ s) (inRange net s) _ _ (λ _. eq-elim {A = Done} (λ r. 0 < r .answer → r .state ≡ s) (answerOf net s k p q) 0 _ _ (λ _ h. absurd (omega arith)) (λ _ _. refl))
-    (λ _ _. refl)
+    b-elim {A = Done} (λ r. 0 < r .answer → r .state ≡ s) (inRange net s) _ _ (λ _. done-in-refused (wiresOf net) s k p q) (λ _ _. refl)
+
+pub act-refused : (net : Network) (s : State) (bytes : List ℕ) → 0 < actOf net s bytes .answer → actOf net s bytes .state ≡ s
+unfolding actOf actIn
+act-refused net s bytes =
+    b-elim {A = Acted} (λ r. 0 < r .answer → r .state ≡ s) (inRange net s) _ _ (λ _. act-in-refused (wiresOf net) s (readAt bytes 0)) (λ _ _. refl)
 
 -- ---- the start state
 
@@ -274,7 +290,8 @@ module _ (net : Network) (long : length (net .starts) ≡ 64) where
             counted = λ k x h. entry-of (λ _. omega (arith, none (length kinds * 256) (cellOf (count k x)))) (λ _. none (length kinds * 256) (cellOf (count k x)));
             queued = record {
               at-most-two = λ d h. entry-of (λ _. omega (arith, none 256 d)) (λ _. none 256 d);
-              message = λ d j h l. message-of (λ waits. absurd (omega (arith, none 256 d))) (λ _. (none 512 (d * 2 + j), none 512 (d * 2 + j)));
+              sort = λ d j h l. sort-of (λ waits. absurd (omega (arith, none 256 d))) (λ _. none 512 (d * 2 + j));
+              load = λ e h. load-of (λ _. none 512 e);
             };
             slot = λ x h. past-of (λ _. none 512 x);
             value = λ p h. past-of (λ past. valid-rest net v .no-start p past h);
