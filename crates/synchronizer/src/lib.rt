@@ -3,6 +3,8 @@ mod lanes;
 mod queue;
 mod test;
 
+mod valid;
+
 // What the bench holds between actions.
 pub struct State {
     // how often each action was taken: a row of 256 for each kind, by node or by direction
