@@ -41,5 +41,5 @@ module _ (counts : List ℕ) (k : Kind) (x : ℕ) (r : Shown) where
     enough t h e s b =
         record {
           is = e ∙ sym (ifB-yes stands (ifLt n has rest 16) 14 t ∙ ifLt-yes n has rest 16 h);
-          taken = λ _. (s, b)
+          taken = λ _. (s, b);
         }

@@ -46,8 +46,7 @@ pub(crate) fn near(sets: &[u64; 64], p: u8, q: u8) -> bool
 {
     NodeSet {
         marks: sets[p as usize],
-    }
-    .contains(q as usize)
+    }.contains(q as usize)
 }
 
 // "A node that names itself as parent is a root."

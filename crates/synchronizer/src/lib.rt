@@ -2,7 +2,6 @@
 mod lanes;
 mod queue;
 mod test;
-
 mod valid;
 
 // What the bench holds between actions.

@@ -51,38 +51,43 @@ fn node(counts: &[u16; 5120], kind: Kind, x: u8, need: Counter, rest: u8) -> Sho
             sub: x,
         };
     }
-    Shown {
-        answer: 16,
-        sub: 0,
-    }
+    Shown { answer: 16, sub: 0 }
 }
 
 // "A root where a parent is needed" is 14.
-fn child(parents: &[u8; 64], counts: &[u16; 5120], kind: Kind, p: u8, need: Counter, rest: u8) -> Shown
+fn child(
+    parents: &[u8; 64],
+    counts: &[u16; 5120],
+    kind: Kind,
+    p: u8,
+    need: Counter,
+    rest: u8,
+) -> Shown
     requires { ⌜ p < 64 ⌝ }
     ensures { λ r. ⌜ RowShows (now (counts .entry)) kind p (not (isRoot (now (parents .entry)) p)) need rest r ⌝ }
 {
     if is_root(parents, p) {
-        return Shown {
-            answer: 14,
-            sub: 0,
-        };
+        return Shown { answer: 14, sub: 0 };
     }
     node(counts, kind, p, need, rest)
 }
 
 // "No root for 24, 31" is 14.
-fn root(parents: &[u8; 64], counts: &[u16; 5120], kind: Kind, p: u8, need: Counter, rest: u8) -> Shown
+fn root(
+    parents: &[u8; 64],
+    counts: &[u16; 5120],
+    kind: Kind,
+    p: u8,
+    need: Counter,
+    rest: u8,
+) -> Shown
     requires { ⌜ p < 64 ⌝ }
     ensures { λ r. ⌜ RowShows (now (counts .entry)) kind p (isRoot (now (parents .entry)) p) need rest r ⌝ }
 {
     if is_root(parents, p) {
         return node(counts, kind, p, need, rest);
     }
-    Shown {
-        answer: 14,
-        sub: 0,
-    }
+    Shown { answer: 14, sub: 0 }
 }
 
 // "No such link, link not preferred" is 14: q is in p's set of neighbours, or of preferred ones.
@@ -102,10 +107,7 @@ fn link(
     if near(sets, p, q) {
         return node(counts, kind, d, need, rest);
     }
-    Shown {
-        answer: 14,
-        sub: 0,
-    }
+    Shown { answer: 14, sub: 0 }
 }
 
 // The count is above n.
@@ -221,20 +223,11 @@ fn output(counts: &[u16; 5120], rounds: u16, p: u8) -> Shown
     let inputs = actions::cell(Counter(Kind::Input, p));
     if below(counts[own], rounds) {
         if counts[inputs] < counts[own] {
-            return Shown {
-                answer: 16,
-                sub: 0,
-            };
+            return Shown { answer: 16, sub: 0 };
         }
-        return Shown {
-            answer: 0,
-            sub: p,
-        };
+        return Shown { answer: 0, sub: p };
     }
-    Shown {
-        answer: 15,
-        sub: 0,
-    }
+    Shown { answer: 15, sub: 0 }
 }
 
 // "p has output"
@@ -357,7 +350,14 @@ fn down_sent(parents: &[u8; 64], counts: &[u16; 5120], p: u8) -> Shown
     requires { ⌜ (p < 64) × (getD (now parents) p 0 < 64) ⌝ }
     ensures { λ r. ⌜ RowShows (now (counts .entry)) DownSent p (not (isRoot (now (parents .entry)) p)) (knowsBy (isRoot (now (parents .entry)) (getD (now (parents .entry)) p 0)) (getD (now (parents .entry)) p 0)) 0 r ⌝ }
 {
-    child(parents, counts, Kind::DownSent, p, parent_knows(parents, p), 0)
+    child(
+        parents,
+        counts,
+        Kind::DownSent,
+        p,
+        parent_knows(parents, p),
+        0,
+    )
 }
 
 // "parent may go"
@@ -365,7 +365,14 @@ fn subtree_go_sent(parents: &[u8; 64], counts: &[u16; 5120], p: u8) -> Shown
     requires { ⌜ (p < 64) × (getD (now parents) p 0 < 64) ⌝ }
     ensures { λ r. ⌜ RowShows (now (counts .entry)) SubtreeGoSent p (not (isRoot (now (parents .entry)) p)) (mayGoBy (isRoot (now (parents .entry)) (getD (now (parents .entry)) p 0)) (getD (now (parents .entry)) p 0)) 0 r ⌝ }
 {
-    child(parents, counts, Kind::SubtreeGoSent, p, parent_may_go(parents, p), 0)
+    child(
+        parents,
+        counts,
+        Kind::SubtreeGoSent,
+        p,
+        parent_may_go(parents, p),
+        0,
+    )
 }
 
 // "p knows"
@@ -398,7 +405,16 @@ fn preferred_delivered(
 {
     let d = lane(lanes, p, q);
     let need = Counter(Kind::PreferredSent, d);
-    link(preferred, counts, Kind::PreferredDelivered, p, q, d, need, 0)
+    link(
+        preferred,
+        counts,
+        Kind::PreferredDelivered,
+        p,
+        q,
+        d,
+        need,
+        0,
+    )
 }
 
 // "p knows, up delivered from every child, preferred word delivered to p on each of its preferred links"

@@ -11,9 +11,11 @@ ghost use Rattle.actions.specs.Records.{bodyOf};
 ghost use Rattle.synchronizer.specs.After.{stateOf};
 ghost use Rattle.synchronizer.specs.Valid.{countsFit, lengthsFit, sortFits, sortsFit, loadFits, loadsFit, restFits, stateFits};
 ghost use Rattle.synchronizer.specs.Entry.{inRange};
-ghost use Rattle.synchronizer.specs.Start.{startOf};
+ghost use Rattle.synchronizer.specs.Start.{freshWith, startOf};
 use crate::Done;
 use crate::State;
+use crate::queue::ACK;
+use crate::queue::PACKET;
 use actions::BODIES;
 use network::Network;
 
@@ -70,7 +72,7 @@ fn rows_fit(counts: &[u16; 5120], nodes: &[u16; 256], lanes: &[u16; 256]) -> boo
     ensures { λ r. ⌜ r ≡ allBelow (λ i. allBelow (λ x. leb (getD (now (counts .entry)) (i * 256 + x) 0) (getD (ifEq (bodyOf (kindAt i)) 1 (now (nodes .entry)) (now (lanes .entry))) x 0)) 256) (length kinds) ⌝ }
 {
     let mut row = 0;
-    while row < 20 {
+    while row < BODIES.len() {
         if kind_fits(counts, row, nodes, lanes) {
             row += 1;
         } else {
@@ -122,10 +124,10 @@ fn sort_fault(len: u8, j: u8, sort: u8) -> u8
     ensures { λ r. ⌜ eqb r 0 ≡ sortFits len j sort ⌝ }
 {
     if j < len {
-        if sort == 1 {
+        if sort == PACKET {
             return 0;
         }
-        if sort == 2 {
+        if sort == ACK {
             return 0;
         }
         return 1;
@@ -155,7 +157,7 @@ fn sorts_fit(lens: &[u8; 256], sorts: &[u8; 512]) -> bool
 fn load_fault(sort: u8, load: u16) -> u16
     ensures { λ r. ⌜ eqb r 0 ≡ loadFits sort load ⌝ }
 {
-    if sort == 1 {
+    if sort == PACKET {
         return 0;
     }
     load
@@ -251,41 +253,40 @@ pub(crate) fn in_range(
     false
 }
 
+// "all counts and slots are 0, queues are empty"
+fn fresh(values: [u16; 64]) -> State
+    ensures { λ r. ⌜ r ≡ freshWith values ⌝ }
+{
+    let counts = [0u16; 5120];
+    let lens = [0u8; 256];
+    let sorts = [0u8; 512];
+    let loads = [0u16; 512];
+    let slots = [0u16; 512];
+    State {
+        counts,
+        lens,
+        sorts,
+        loads,
+        slots,
+        values,
+    }
+}
+
 impl State {
-    // "In the start state all counts and slots are 0, queues are empty and values are the plan's."
+    // The start state: "values are the plan's"; "a start state refused by 17 is all zeros".
     pub fn start(net: Network) -> Done
         ensures { λ r. ⌜ r ≡ startOf net ⌝ }
     {
-        let counts = [0u16; 5120];
-        let lens = [0u8; 256];
-        let sorts = [0u8; 512];
-        let loads = [0u16; 512];
-        let slots = [0u16; 512];
         let starts = net.starts;
-        let none = [0u16; 64];
         if net.valid() {
             return Done {
                 answer: 0,
-                state: State {
-                    counts,
-                    lens,
-                    sorts,
-                    loads,
-                    slots,
-                    values: starts,
-                },
+                state: fresh(starts),
             };
         }
         Done {
             answer: 17,
-            state: State {
-                counts,
-                lens,
-                sorts,
-                loads,
-                slots,
-                values: none,
-            },
+            state: fresh([0u16; 64]),
         }
     }
 }

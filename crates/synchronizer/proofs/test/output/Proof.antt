@@ -25,7 +25,7 @@ unfolding countAnswer
 returns-2 c = let h : getD (c .before .before .before .before .before .before .before .before .args .counts .now) (c .before .before .before .before .before .before .before .cell .result) 0 < c .before .before .before .before .before .before .before .before .args .rounds = ltb-true _ _ (sym (c .before .before .before .before .below .ensures .0) ∙ c .before .before .before .if1 .taken) in
     record {
       is = rw (← c .before .before .before .before .before .before .before .cell .ensures .0, ← c .before .before .before .before .before .before .cell2 .ensures .0) (search (needs, picks));
-      taken = λ _. (refl, rw (← c .before .before .before .before .before .before .before .cell .ensures .0) (c .before .before .before .before .below .ensures .1 (c .before .before .before .if1 .taken)))
+      taken = λ _. (refl, rw (← c .before .before .before .before .before .before .before .cell .ensures .0) (c .before .before .before .before .below .ensures .1 (c .before .before .before .if1 .taken)));
     }
 
 returns-3 : tie.Need-returns-3
