@@ -21,6 +21,10 @@ pub record QueuesLong (u : Queues) : Type 0 where
   pub sorts : length (u .sorts) ≡ 512
   pub loads : length (u .loads) ≡ 512
 
+-- what is kept
+abbrev pub QueuesSound : ℕ → Queues → Type 0
+QueuesSound links u = QueuesPass links u × QueuesLong u
+
 -- ---- the second entry moves up
 
 pub length-moved : (xs : List ℕ) (d : ℕ) → length (movedUp xs d) ≡ length xs
@@ -54,13 +58,19 @@ same-sort j a b e = rw (a, b) e
 same-load : {sort sort′ load load′ : ℕ} → sort ≡ sort′ → load ≡ load′ → loadFits sort′ load′ ≡ true → loadFits sort load ≡ true
 same-load a b e = rw (a, b) e
 
-module _ (links : ℕ) (u : Queues) (pass : QueuesPass links u) (long : QueuesLong u) (d : ℕ) where
-  pub pushed-keeps : (sort load : ℕ) → links ≤ 128 → d < links * 2 → Message sort → loadFits sort load ≡ true → QueuesPass links (pushed u d sort load) × QueuesLong (pushed u d sort load)
+module _ (links : ℕ) (u : Queues) (sound : QueuesSound links u) (d : ℕ) where
+  pass : QueuesPass links u
+  pass = sound .0
+
+  long : QueuesLong u
+  long = sound .1
+
+  pub pushed-keeps : (sort load : ℕ) → links ≤ 128 → d < links * 2 → Message sort → loadFits sort load ≡ true → QueuesSound links (pushed u d sort load)
   unfolding pushed
   pushed-keeps sort load most used message value =
-      lt-elim (λ z. QueuesPass links z × QueuesLong z) (getD (u .lens) d 0) 2 (queues lens sorts loads) u
+      lt-elim (QueuesSound links) (getD (u .lens) d 0) 2 (queues lens sorts loads) u
       (λ room. (record { at-most-two = lengths room; sort = λ e j h l. sorts-fit room e j h l (ℕ-discrete e d) (ℕ-discrete j n); load = λ e h. loads-fit room e h (ℕ-discrete e (d * 2 + n)) }, sizes))
-      (λ _. (pass, long))
+      (λ _. sound)
     where
       n : ℕ
       n = getD (u .lens) d 0
@@ -105,12 +115,12 @@ module _ (links : ℕ) (u : Queues) (pass : QueuesPass links u) (long : QueuesLo
       loads-fit room e h (yes end) =
           same-load (set-here (u .sorts) (d * 2 + n) e sort 0 end (omega (arith, long .sorts))) (set-here (u .loads) (d * 2 + n) e load 0 end (omega (arith, long .loads))) value
 
-  pub popped-keeps : QueuesPass links (popped u d) × QueuesLong (popped u d)
+  pub popped-keeps : QueuesSound links (popped u d)
   unfolding popped
   popped-keeps =
-      lt-elim (λ z. QueuesPass links z × QueuesLong z) 0 (getD (u .lens) d 0) (queues lens (movedUp (u .sorts) d) (movedUp (u .loads) d)) u
+      lt-elim (QueuesSound links) 0 (getD (u .lens) d 0) (queues lens (movedUp (u .sorts) d) (movedUp (u .loads) d)) u
       (λ some. (record { at-most-two = lengths some; sort = λ e j h l. sorts-fit some e j h l (ℕ-discrete e d); load = λ e h. loads-fit some e h (ℕ-discrete e (d * 2)) (ℕ-discrete e (d * 2 + 1)) }, sizes))
-      (λ _. (pass, long))
+      (λ _. sound)
     where
       n : ℕ
       n = getD (u .lens) d 0

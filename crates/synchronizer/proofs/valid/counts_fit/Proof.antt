@@ -1,7 +1,7 @@
 -- `counts_fit`: each kind is held against the limits of the nodes or of the directions.
 -- Assumes nothing.
 use borrow.Author.Needs.{needs}
-use mathlib.Core.Path.{_≡_, _∙_}
+use mathlib.Core.Path.{_∙_}
 use Rattle.synchronizer.proofs.Limits.{rows-are-counts}
 use Rattle.synchronizer.proofs.valid.counts_fit.Statement.{statement}
 use Rattle.synchronizer.proofs.valid.counts_fit.Tie as tie

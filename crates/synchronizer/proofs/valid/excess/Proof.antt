@@ -3,7 +3,7 @@
 use borrow.Author.Needs.{needs}
 use Prim.Native.Nat.{_-_}
 use native.Mathlib.Omega.{arith}
-use mathlib.Core.Path.{_≡_, sym, _∙_}
+use mathlib.Core.Path.{sym, _∙_}
 use borrow.Author.Tests.{ne-eqb, lt-leb, le-leb}
 use Rattle.synchronizer.proofs.valid.excess.Statement.{statement}
 use Rattle.synchronizer.proofs.valid.excess.Tie as tie

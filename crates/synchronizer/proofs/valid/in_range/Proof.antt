@@ -3,7 +3,6 @@
 use borrow.Author.Needs.{needs}
 use mathlib.Core.Path.{refl, sym, _∙_}
 use Rattle.laws.proofs.Choice.{both-on, both-off}
-use Rattle.network.specs.Valid.{validNetwork}
 use Rattle.network.proofs.Valid.{valid-limits}
 use Rattle.synchronizer.specs.Valid.{validState}
 use Rattle.synchronizer.specs.Entry.{inRange}

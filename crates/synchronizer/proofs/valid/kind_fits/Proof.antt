@@ -1,7 +1,7 @@
 -- `kind_fits`: the table of body lengths says whether the kind counts by node or by direction.
 -- Assumes nothing.
 use borrow.Author.Needs.{needs}
-use mathlib.Core.Path.{_≡_, sym, _∙_}
+use mathlib.Core.Path.{sym, _∙_}
 use Rattle.laws.proofs.Choice.{ifEq-yes, ifEq-no}
 use Rattle.actions.specs.Kinds.{kindAt}
 use Rattle.actions.specs.Records.{bodyOf}

@@ -1,7 +1,7 @@
 -- `lengths_fit`: at most two wait where a direction is in use, and none past those.
 -- Assumes nothing.
 use borrow.Author.Needs.{needs}
-use mathlib.Core.Path.{_≡_, _∙_}
+use mathlib.Core.Path.{_∙_}
 use Rattle.synchronizer.proofs.Limits.{lengths-are-entries}
 use Rattle.synchronizer.proofs.valid.lengths_fit.Statement.{statement}
 use Rattle.synchronizer.proofs.valid.lengths_fit.Tie as tie

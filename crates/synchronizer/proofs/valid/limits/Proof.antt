@@ -2,11 +2,10 @@
 -- Assumes nothing.
 use borrow.Author.Needs.{needs}
 use Prim.Native.Nat.{_≤_, _-_}
-use native.Mathlib.Omega.{arith}
-use mathlib.Core.Path.{_≡_, refl, sym, _∙_, ap}
-use lib.ListN.{length, replicate, length-replicate}
+use mathlib.Core.Path.{_≡_, refl, sym, _∙_}
+use lib.ListN.{replicate}
 use Rattle.laws.specs.Below.{overBelow}
-use Rattle.laws.proofs.Below.{over-start, over-more, over-end, length-over}
+use Rattle.laws.proofs.Below.{over-start, over-more, over-end}
 use Rattle.synchronizer.proofs.Limits.{limits-filled}
 use Rattle.synchronizer.proofs.valid.limits.Statement.{statement}
 use Rattle.synchronizer.proofs.valid.limits.Tie as tie
