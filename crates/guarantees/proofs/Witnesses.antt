@@ -30,7 +30,6 @@ use Rattle.synchronizer.specs.Wires.{joined, lanesOf, wiresOf, isRoot, aroundOf
 use Rattle.synchronizer.specs.Answer.{standsIn, startsRound, countAnswer, childrenHave, sendersHave, everyHas, headOf, packetFirst, ackFirst, roomAnswer, queueAnswer, ownIn, legalAnswer, needAnswer, answerIn}
 use Rattle.synchronizer.specs.After.{pushed, movedUp, popped, meanHeard, effectIn, counted, afterIn}
 use Rattle.synchronizer.specs.Start.{freshWith, startOf}
-use Rattle.synchronizer.specs.Valid.{usedBy, entryFits, rowFits, countsFit, lengthsFit, messageFits, queueFits, queuesFit, pastFits, restFits, stateFits, validState}
 use Rattle.synchronizer.specs.Entry.{inRange, doneIn, doneOf, actedAs, recordIn, actIn, actOf, listFrom, listOf}
 use lib.ListN.{set, replicate}
 use Rattle.network.specs.declared.Network.{Network}
@@ -63,7 +62,7 @@ pub record PlanWitnesses : Type 0 where
   pub unjoined : planOf (pair 0 1 []) .number ≡ 10
 
 pub plan-witnesses : PlanWitnesses
-unfolding roots ifB ifLt ifEq both allBelow sumBelow countBelow foldBelow firstOf overBelow listBelow pickBelow total digit member inserted removed sizeOf lowestOf allIn sumIn membersOf valuesIn towards linkGives linkSet childSet withSets added linked adopted withinLimits nodeFits rises linkFits linkRises linkStands agrees validNetwork bodyLength recordAt records-readAt roundsRule nodeRule followsOf linkRule endRule zeroNetwork roundsAdded nodeAdded linkAdded turn listsFrom listsOf pairIs joins linkBetween hasLink climb rootOf rootFrom depthFrom depthOf LeadsIn untied firstUntied Tied firstLost rootsOf rootAt inside firstInside chosen preferredBetween notOne firstNotOne clusterCount clusterOf JoinsTwo PairHasOne follow across pass joinedMarks firstUnjoined checksOf planOf shareOf ruleOf meanOf nextBy roundBy roundsBy lockstepOf tableNumber tableOf numberOf indexOf kindAt cellOf placeOf ownOf knowsBy mayGoBy needOf everyOf doesOf namesOf bodyOf actAt actions-readAt joined lanesOf wiresOf isRoot aroundOf standsIn startsRound countAnswer childrenHave sendersHave everyHas headOf packetFirst ackFirst roomAnswer queueAnswer ownIn legalAnswer needAnswer answerIn pushed movedUp popped meanHeard effectIn counted afterIn freshWith startOf usedBy entryFits rowFits countsFit lengthsFit messageFits queueFits queuesFit pastFits restFits stateFits validState inRange doneIn doneOf actedAs recordIn actIn actOf listFrom listOf
+unfolding roots ifB ifLt ifEq both allBelow sumBelow countBelow foldBelow firstOf overBelow listBelow pickBelow total digit member inserted removed sizeOf lowestOf allIn sumIn membersOf valuesIn towards linkGives linkSet childSet withSets added linked adopted withinLimits nodeFits rises linkFits linkRises linkStands agrees validNetwork bodyLength recordAt records-readAt roundsRule nodeRule followsOf linkRule endRule zeroNetwork roundsAdded nodeAdded linkAdded turn listsFrom listsOf pairIs joins linkBetween hasLink climb rootOf rootFrom depthFrom depthOf LeadsIn untied firstUntied Tied firstLost rootsOf rootAt inside firstInside chosen preferredBetween notOne firstNotOne clusterCount clusterOf JoinsTwo PairHasOne follow across pass joinedMarks firstUnjoined checksOf planOf shareOf ruleOf meanOf nextBy roundBy roundsBy lockstepOf tableNumber tableOf numberOf indexOf kindAt cellOf placeOf ownOf knowsBy mayGoBy needOf everyOf doesOf namesOf bodyOf actAt actions-readAt joined lanesOf wiresOf isRoot aroundOf standsIn startsRound countAnswer childrenHave sendersHave everyHas headOf packetFirst ackFirst roomAnswer queueAnswer ownIn legalAnswer needAnswer answerIn pushed movedUp popped meanHeard effectIn counted afterIn freshWith startOf inRange doneIn doneOf actedAs recordIn actIn actOf listFrom listOf
 plan-witnesses =
     record {
       accepted = refl;
@@ -106,7 +105,7 @@ pub record ActionWitnesses : Type 0 where
   pub queue-full : answerOf (planOf (planT 1) .network) full PacketSent 0 1 ≡ 18
 
 pub action-witnesses : ActionWitnesses
-unfolding full ifB ifLt ifEq both allBelow sumBelow countBelow foldBelow firstOf overBelow listBelow pickBelow total digit member inserted removed sizeOf lowestOf allIn sumIn membersOf valuesIn towards linkGives linkSet childSet withSets added linked adopted withinLimits nodeFits rises linkFits linkRises linkStands agrees validNetwork bodyLength recordAt records-readAt roundsRule nodeRule followsOf linkRule endRule zeroNetwork roundsAdded nodeAdded linkAdded turn listsFrom listsOf pairIs joins linkBetween hasLink climb rootOf rootFrom depthFrom depthOf LeadsIn untied firstUntied Tied firstLost rootsOf rootAt inside firstInside chosen preferredBetween notOne firstNotOne clusterCount clusterOf JoinsTwo PairHasOne follow across pass joinedMarks firstUnjoined checksOf planOf shareOf ruleOf meanOf nextBy roundBy roundsBy lockstepOf tableNumber tableOf numberOf indexOf kindAt cellOf placeOf ownOf knowsBy mayGoBy needOf everyOf doesOf namesOf bodyOf actAt actions-readAt joined lanesOf wiresOf isRoot aroundOf standsIn startsRound countAnswer childrenHave sendersHave everyHas headOf packetFirst ackFirst roomAnswer queueAnswer ownIn legalAnswer needAnswer answerIn pushed movedUp popped meanHeard effectIn counted afterIn freshWith startOf usedBy entryFits rowFits countsFit lengthsFit messageFits queueFits queuesFit pastFits restFits stateFits validState inRange doneIn doneOf actedAs recordIn actIn actOf listFrom listOf
+unfolding full ifB ifLt ifEq both allBelow sumBelow countBelow foldBelow firstOf overBelow listBelow pickBelow total digit member inserted removed sizeOf lowestOf allIn sumIn membersOf valuesIn towards linkGives linkSet childSet withSets added linked adopted withinLimits nodeFits rises linkFits linkRises linkStands agrees validNetwork bodyLength recordAt records-readAt roundsRule nodeRule followsOf linkRule endRule zeroNetwork roundsAdded nodeAdded linkAdded turn listsFrom listsOf pairIs joins linkBetween hasLink climb rootOf rootFrom depthFrom depthOf LeadsIn untied firstUntied Tied firstLost rootsOf rootAt inside firstInside chosen preferredBetween notOne firstNotOne clusterCount clusterOf JoinsTwo PairHasOne follow across pass joinedMarks firstUnjoined checksOf planOf shareOf ruleOf meanOf nextBy roundBy roundsBy lockstepOf tableNumber tableOf numberOf indexOf kindAt cellOf placeOf ownOf knowsBy mayGoBy needOf everyOf doesOf namesOf bodyOf actAt actions-readAt joined lanesOf wiresOf isRoot aroundOf standsIn startsRound countAnswer childrenHave sendersHave everyHas headOf packetFirst ackFirst roomAnswer queueAnswer ownIn legalAnswer needAnswer answerIn pushed movedUp popped meanHeard effectIn counted afterIn freshWith startOf inRange doneIn doneOf actedAs recordIn actIn actOf listFrom listOf
 action-witnesses =
     record {
       taken = listed-is (16 ∷ 0 ∷ []) 0 refl refl refl;
@@ -129,6 +128,6 @@ pub record StartAndTableWitnesses : Type 0 where
   pub no-room : tableNumber (planOf (planT 1) .network) 1 1 ≡ 21
 
 pub start-and-table-witnesses : StartAndTableWitnesses
-unfolding ifB ifLt ifEq both allBelow sumBelow countBelow foldBelow firstOf overBelow listBelow pickBelow total digit member inserted removed sizeOf lowestOf allIn sumIn membersOf valuesIn towards linkGives linkSet childSet withSets added linked adopted withinLimits nodeFits rises linkFits linkRises linkStands agrees validNetwork bodyLength recordAt records-readAt roundsRule nodeRule followsOf linkRule endRule zeroNetwork roundsAdded nodeAdded linkAdded turn listsFrom listsOf pairIs joins linkBetween hasLink climb rootOf rootFrom depthFrom depthOf LeadsIn untied firstUntied Tied firstLost rootsOf rootAt inside firstInside chosen preferredBetween notOne firstNotOne clusterCount clusterOf JoinsTwo PairHasOne follow across pass joinedMarks firstUnjoined checksOf planOf shareOf ruleOf meanOf nextBy roundBy roundsBy lockstepOf tableNumber tableOf numberOf indexOf kindAt cellOf placeOf ownOf knowsBy mayGoBy needOf everyOf doesOf namesOf bodyOf actAt actions-readAt joined lanesOf wiresOf isRoot aroundOf standsIn startsRound countAnswer childrenHave sendersHave everyHas headOf packetFirst ackFirst roomAnswer queueAnswer ownIn legalAnswer needAnswer answerIn pushed movedUp popped meanHeard effectIn counted afterIn freshWith startOf usedBy entryFits rowFits countsFit lengthsFit messageFits queueFits queuesFit pastFits restFits stateFits validState inRange doneIn doneOf actedAs recordIn actIn actOf listFrom listOf
+unfolding ifB ifLt ifEq both allBelow sumBelow countBelow foldBelow firstOf overBelow listBelow pickBelow total digit member inserted removed sizeOf lowestOf allIn sumIn membersOf valuesIn towards linkGives linkSet childSet withSets added linked adopted withinLimits nodeFits rises linkFits linkRises linkStands agrees validNetwork bodyLength recordAt records-readAt roundsRule nodeRule followsOf linkRule endRule zeroNetwork roundsAdded nodeAdded linkAdded turn listsFrom listsOf pairIs joins linkBetween hasLink climb rootOf rootFrom depthFrom depthOf LeadsIn untied firstUntied Tied firstLost rootsOf rootAt inside firstInside chosen preferredBetween notOne firstNotOne clusterCount clusterOf JoinsTwo PairHasOne follow across pass joinedMarks firstUnjoined checksOf planOf shareOf ruleOf meanOf nextBy roundBy roundsBy lockstepOf tableNumber tableOf numberOf indexOf kindAt cellOf placeOf ownOf knowsBy mayGoBy needOf everyOf doesOf namesOf bodyOf actAt actions-readAt joined lanesOf wiresOf isRoot aroundOf standsIn startsRound countAnswer childrenHave sendersHave everyHas headOf packetFirst ackFirst roomAnswer queueAnswer ownIn legalAnswer needAnswer answerIn pushed movedUp popped meanHeard effectIn counted afterIn freshWith startOf inRange doneIn doneOf actedAs recordIn actIn actOf listFrom listOf
 start-and-table-witnesses =
     record { started = refl; not-started = refl; tabled = refl; out-of-range = refl; too-many-rounds = refl; no-room = refl }
