@@ -3,6 +3,8 @@ pub mod Answers
 pub mod Bridge
 pub mod Choices
 pub mod Counting
+pub mod Demand
+pub mod Demand1
 pub mod Demand3
 pub mod Directions
 pub mod Effects
@@ -21,6 +23,8 @@ pub mod Seats
 pub mod Slots
 pub mod Start
 pub mod Tables
+pub mod Trials
 pub mod Unique
 pub mod Waiting
 pub mod Whole
+pub mod Witnesses

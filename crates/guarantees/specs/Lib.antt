@@ -1,4 +1,6 @@
+pub mod Among
 pub mod Bridge
 pub mod Outcome
 pub mod Reading
 pub mod Steps
+pub mod Trials
