@@ -9,7 +9,7 @@ use Rattle.synchronizer.proofs.Keeps.{taken-keeps}
 use Rattle.automaton.specs.Actions.{bodyOf}
 use Rattle.guarantees.specs.Reading.{kindOf}
 use Rattle.guarantees.specs.Bridge.{Bridge}
-use Rattle.guarantees.proofs.After.{answer-is, after-is}
+pub use Rattle.guarantees.proofs.After.{answer-is, after-is}
 use Rattle.guarantees.proofs.Whole.{one-reading}
 use Rattle.guarantees.proofs.Start.{start-is, lockstep-is}
 
