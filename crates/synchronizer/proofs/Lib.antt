@@ -1,3 +1,4 @@
+pub mod Answers
 pub mod Directions
 pub mod Entries
 pub mod Faults
