@@ -1,5 +1,6 @@
 pub mod Answers
 pub mod Directions
+pub mod Effects
 pub mod Entries
 pub mod Faults
 pub mod Heads
