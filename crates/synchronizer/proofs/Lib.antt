@@ -9,6 +9,7 @@ pub mod Limits
 pub mod Rows
 pub mod States
 pub mod Taken
+pub mod Taking
 pub mod Trials
 pub mod Waiting
 pub mod Walks
