@@ -2,6 +2,7 @@
 mod effect;
 mod lanes;
 mod queue;
+mod runner;
 mod test;
 mod valid;
 
