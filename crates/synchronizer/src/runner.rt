@@ -62,3 +62,55 @@ pub(crate) fn turn(
         }
     }
 }
+
+// Where a list stopped: the answer, the place, and how many were taken.
+pub struct Ended {
+    pub answer: u8,
+    pub place: usize,
+    pub taken: usize,
+}
+
+pub(crate) fn go_through(
+    bodies: &[u8; 20],
+    bytes: &[u8],
+    nodes: usize,
+    rounds: u16,
+    parents: &[u8; 64],
+    lanes: &[u8; 4096],
+    neighbours: &[u64; 64],
+    children: &[u64; 64],
+    preferred: &[u64; 64],
+    counts: &mut [u16; 5120],
+    lens: &mut [u8; 256],
+    sorts: &mut [u8; 512],
+    loads: &mut [u16; 512],
+    slots: &mut [u16; 512],
+    values: &mut [u16; 64],
+) -> Ended
+    requires { ⌜ (nodes ≤ 64) × Below64 (now parents) nodes × (now bodies ≡ bodyTable) ⌝ }
+    ensures { λ r. ⌜ ran (r .answer) (r .place) (r .taken) (stateOf (now (counts .exit)) (now (lens .exit)) (now (sorts .exit)) (now (loads .exit)) (now (slots .exit)) (now (values .exit))) ≡ listFrom (suc (length (now (bytes .entry)))) (wires nodes rounds (now (parents .entry)) (now (lanes .entry)) (now (neighbours .entry)) (now (children .entry)) (now (preferred .entry))) (stateOf (now (counts .entry)) (now (lens .entry)) (now (sorts .entry)) (now (loads .entry)) (now (slots .entry)) (now (values .entry))) (now (bytes .entry)) 0 0 ⌝ }
+{
+    let mut at = 0;
+    let mut taken = 0;
+    while at < bytes.len() {
+        let did = turn(
+            bodies, bytes, at, nodes, rounds, parents, lanes, neighbours, children, preferred,
+            counts, lens, sorts, loads, slots, values,
+        );
+        let answer = did.answer;
+        if 0 < answer {
+            return Ended {
+                answer,
+                place: at,
+                taken,
+            };
+        }
+        at += did.used;
+        taken += 1;
+    }
+    Ended {
+        answer: 0,
+        place: at,
+        taken,
+    }
+}
