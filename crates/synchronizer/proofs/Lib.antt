@@ -1,4 +1,5 @@
 pub mod Heads
+pub mod Answers
 pub mod Directions
 pub mod Rows
 pub mod Trials

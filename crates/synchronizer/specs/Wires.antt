@@ -19,6 +19,18 @@ pub record Wires : Type 0 where
   pub children : List ℕ
   pub preferred : List ℕ
 
+abbrev pub wires : ℕ → ℕ → List ℕ → List ℕ → List ℕ → List ℕ → List ℕ → Wires
+wires nodes rounds parents lanes neighbours children preferred =
+    record {
+      nodes = nodes;
+      rounds = rounds;
+      parents = parents;
+      lanes = lanes;
+      neighbours = neighbours;
+      children = children;
+      preferred = preferred
+    }
+
 -- the table of directions with link l from a to b: "every direction of every link" has a number, 2 l from a to b and 2 l + 1 back
 unfoldable pub joined : List ℕ → ℕ → ℕ → ℕ → List ℕ
 joined lanes a b l = set (set lanes (a * 64 + b) (l * 2)) (b * 64 + a) (l * 2 + 1)
