@@ -4,16 +4,20 @@ use crate::queue::ACK;
 use crate::queue::PACKET;
 use crate::queue::pop;
 use crate::queue::push;
+use crate::test::test;
+use actions::Counter;
 use actions::Does;
+use actions::Kind;
 use nodeset::NodeSet;
 ghost use mathlib.Core.Path.{_≡_};
 ghost use mathlib.Core.Bool.{true};
 ghost use mathlib.Core.List.{List};
-ghost use Prim.Native.Nat.{ℕ, _<_};
+ghost use Prim.Native.Nat.{ℕ, _<_, _≤_};
 ghost use lib.ListN.{getD};
 ghost use Rattle.nodeset.specs.Marks.{member};
-ghost use Rattle.synchronizer.specs.Wires.{hearing, laneIn};
+ghost use Rattle.synchronizer.specs.Wires.{Below64, wires, hearing, laneIn};
 ghost use Rattle.synchronizer.specs.After.{stateOf, slotAt, meanHeard, effectIn};
+ghost use Rattle.synchronizer.specs.Entry.{done, doneIn};
 
 // The packet of round i's parity that p heard last from q.
 fn last_heard(slots: &[u16; 512], lanes: &[u8; 4096], q: u8, p: u8, i: u16) -> u16
@@ -100,4 +104,43 @@ pub(crate) fn effect(
             values[x] = value;
         }
     }
+}
+
+// An action on lent arrays: its answer, and where it is 0 the state after it.
+pub(crate) fn take(
+    nodes: usize,
+    rounds: u16,
+    parents: &[u8; 64],
+    lanes: &[u8; 4096],
+    neighbours: &[u64; 64],
+    children: &[u64; 64],
+    preferred: &[u64; 64],
+    counts: &mut [u16; 5120],
+    lens: &mut [u8; 256],
+    sorts: &mut [u8; 512],
+    loads: &mut [u16; 512],
+    slots: &mut [u16; 512],
+    values: &mut [u16; 64],
+    kind: Kind,
+    p: u8,
+    q: u8,
+) -> u8
+    requires { ⌜ (nodes ≤ 64) × Below64 (now parents) nodes ⌝ }
+    ensures { λ r. ⌜ done r (stateOf (now (counts .exit)) (now (lens .exit)) (now (sorts .exit)) (now (loads .exit)) (now (slots .exit)) (now (values .exit))) ≡ doneIn (wires nodes rounds (now (parents .entry)) (now (lanes .entry)) (now (neighbours .entry)) (now (children .entry)) (now (preferred .entry))) (stateOf (now (counts .entry)) (now (lens .entry)) (now (sorts .entry)) (now (loads .entry)) (now (slots .entry)) (now (values .entry))) kind p q ⌝ }
+{
+    let shown = test(
+        nodes, rounds, parents, lanes, neighbours, children, preferred, counts, lens, sorts, loads,
+        kind, p, q,
+    );
+    let answer = shown.answer;
+    if 0 < answer {
+        return answer;
+    }
+    let sub = shown.sub;
+    let own = actions::cell(Counter(kind, sub));
+    let i = counts[own] + 1;
+    counts[own] = i;
+    let does = actions::does_of(kind);
+    effect(does, lanes, neighbours, lens, sorts, loads, slots, values, p, sub, i);
+    0
 }
