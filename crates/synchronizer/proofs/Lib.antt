@@ -1,4 +1,6 @@
+pub mod Answers
 pub mod Directions
+pub mod Effects
 pub mod Entries
 pub mod Faults
 pub mod Heads
@@ -7,6 +9,7 @@ pub mod Limits
 pub mod Rows
 pub mod States
 pub mod Taken
+pub mod Taking
 pub mod Trials
 pub mod Waiting
 pub mod Walks

@@ -1,4 +1,5 @@
 // The synchronizer: a state by value, its start, the state half of answer 17, the twenty actions, one action from bytes and a list of them.
+mod effect;
 mod lanes;
 mod queue;
 mod test;
