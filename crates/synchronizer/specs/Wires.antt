@@ -28,7 +28,7 @@ wires nodes rounds parents lanes neighbours children preferred =
       lanes = lanes;
       neighbours = neighbours;
       children = children;
-      preferred = preferred
+      preferred = preferred;
     }
 
 -- the wires of an effect: it looks at the directions and the neighbours alone

@@ -129,8 +129,20 @@ pub(crate) fn take(
     ensures { λ r. ⌜ done r (stateOf (now (counts .exit)) (now (lens .exit)) (now (sorts .exit)) (now (loads .exit)) (now (slots .exit)) (now (values .exit))) ≡ doneIn (wires nodes rounds (now (parents .entry)) (now (lanes .entry)) (now (neighbours .entry)) (now (children .entry)) (now (preferred .entry))) (stateOf (now (counts .entry)) (now (lens .entry)) (now (sorts .entry)) (now (loads .entry)) (now (slots .entry)) (now (values .entry))) kind p q ⌝ }
 {
     let shown = test(
-        nodes, rounds, parents, lanes, neighbours, children, preferred, counts, lens, sorts, loads,
-        kind, p, q,
+        nodes,
+        rounds,
+        parents,
+        lanes,
+        neighbours,
+        children,
+        preferred,
+        counts,
+        lens,
+        sorts,
+        loads,
+        kind,
+        p,
+        q,
     );
     let answer = shown.answer;
     if 0 < answer {
@@ -141,6 +153,18 @@ pub(crate) fn take(
     let i = counts[own] + 1;
     counts[own] = i;
     let does = actions::does_of(kind);
-    effect(does, lanes, neighbours, lens, sorts, loads, slots, values, p, sub, i);
+    effect(
+        does,
+        lanes,
+        neighbours,
+        lens,
+        sorts,
+        loads,
+        slots,
+        values,
+        p,
+        sub,
+        i,
+    );
     0
 }

@@ -487,16 +487,10 @@ pub(crate) fn test(
     ensures { λ r. ⌜ TestShows (wires nodes rounds (now (parents .entry)) (now (lanes .entry)) (now (neighbours .entry)) (now (children .entry)) (now (preferred .entry))) (seen (now (counts .entry)) (now (lens .entry)) (now (sorts .entry)) (now (loads .entry))) kind p q r ⌝ }
 {
     if nodes <= p as usize {
-        return Shown {
-            answer: 13,
-            sub: 0,
-        };
+        return Shown { answer: 13, sub: 0 };
     }
     if nodes <= q as usize {
-        return Shown {
-            answer: 13,
-            sub: 0,
-        };
+        return Shown { answer: 13, sub: 0 };
     }
     match kind {
         Kind::Output => output(counts, rounds, p),

@@ -22,7 +22,6 @@ Inv-loop slots lanes p i heard₀ rest₀ heard rest = (length heard ≡ 64) × 
 abbrev μ-loop : tie.MeasureT-loop
 μ-loop slots lanes p i heard₀ rest₀ heard rest = rest .marks
 
-
 cast-last-heard : tie.Need-cast-last-heard Inv-loop μ-loop
 cast-last-heard c = omega (arith, lowest-low (c .before .before .before .loop .rest .marks) (c .lowest .result) (c .lowest .ensures) (search needs) (search needs))
 
