@@ -140,7 +140,7 @@ module _ (w : Wires) (first : State) (bytes : List ℕ) where
               enough = omega (arith, fewer .1, within .0);
               within = within .1;
               few = omega (arith, g .few, within .0);
-              same = sym (list-on w s bytes at (fewer .0) taken h y) ∙ fewer .2
+              same = sym (list-on w s bytes at (fewer .0) taken h y) ∙ fewer .2;
             }
 
     pub going-stops : (t : Acted) → Going s at taken → at < length bytes → t ≡ actIn w s bytes at → 0 < t .answer → ran (t .answer) at taken (t .state) ≡ whole

@@ -49,8 +49,22 @@ pub(crate) fn turn(
         },
         Record::Act { kind, p, q, width } => {
             let answer = take(
-                nodes, rounds, parents, lanes, neighbours, children, preferred, counts, lens,
-                sorts, loads, slots, values, kind, p, q,
+                nodes,
+                rounds,
+                parents,
+                lanes,
+                neighbours,
+                children,
+                preferred,
+                counts,
+                lens,
+                sorts,
+                loads,
+                slots,
+                values,
+                kind,
+                p,
+                q,
             );
             if 0 < answer {
                 return Did { answer, used: 0 };
@@ -94,8 +108,22 @@ pub(crate) fn go_through(
     let mut taken = 0;
     while at < bytes.len() {
         let did = turn(
-            bodies, bytes, at, nodes, rounds, parents, lanes, neighbours, children, preferred,
-            counts, lens, sorts, loads, slots, values,
+            bodies,
+            bytes,
+            at,
+            nodes,
+            rounds,
+            parents,
+            lanes,
+            neighbours,
+            children,
+            preferred,
+            counts,
+            lens,
+            sorts,
+            loads,
+            slots,
+            values,
         );
         let answer = did.answer;
         if 0 < answer {

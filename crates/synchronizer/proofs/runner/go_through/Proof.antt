@@ -19,11 +19,9 @@ abbrev μ-loop : tie.MeasureT-loop
 μ-loop bodies bytes nodes rounds parents lanes neighbours children preferred counts₀ lens₀ sorts₀ loads₀ slots₀ values₀ at₀ taken₀ counts lens sorts loads slots values at taken = length bytes - at
 
 zero : (c : tie.After-struct-known Inv-loop μ-loop) → c .before .before .turn .result .answer ≡ 0
-
 zero c = omega (arith, c .before .if1 .left)
 
 moves : (c : tie.After-struct-known Inv-loop μ-loop) → (1 < c .before .before .turn .result .used) × (c .before .before .before .before .before .before .before .before .before .before .loop .at + c .before .before .turn .result .used ≤ length (c .before .before .before .before .before .before .before .before .before .before .before .before .args .bytes .now))
-
 moves c = turn-moves _ _ _ _ _ (c .before .before .turn .ensures) (zero c)
 
 returns : tie.Need-returns Inv-loop μ-loop
