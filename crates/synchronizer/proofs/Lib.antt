@@ -6,6 +6,7 @@ pub mod Faults
 pub mod Heads
 pub mod Keeps
 pub mod Limits
+pub mod Ranges
 pub mod Rows
 pub mod States
 pub mod Taken
