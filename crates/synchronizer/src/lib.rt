@@ -1,8 +1,18 @@
 // The synchronizer: a state by value, its start, the state half of answer 17, the twenty actions, one action from bytes and a list of them.
+mod effect;
 mod lanes;
 mod queue;
+mod runner;
 mod test;
 mod valid;
+
+use crate::effect::take;
+use crate::lanes::lanes_of;
+use crate::valid::in_range;
+use actions::Kind;
+use network::Network;
+ghost use mathlib.Core.Path.{_≡_};
+ghost use Rattle.synchronizer.specs.Entry.{doneOf};
 
 // What the bench holds between actions.
 pub struct State {
@@ -44,4 +54,60 @@ pub struct Ran {
     pub place: usize,
     pub taken: usize,
     pub state: State,
+}
+
+impl State {
+    // An action by its kind: 17 first, then the answer and the state after on arrays that are lent.
+    fn action(self, net: Network, kind: Kind, p: u8, q: u8) -> Done
+        ensures { λ r. ⌜ r ≡ doneOf net self kind p q ⌝ }
+    {
+        let mut counts = self.counts;
+        let mut lens = self.lens;
+        let mut sorts = self.sorts;
+        let mut loads = self.loads;
+        let mut slots = self.slots;
+        let mut values = self.values;
+        if in_range(net, &counts, &lens, &sorts, &loads, &slots, &values) {
+            let parents = net.parents;
+            let lowers = net.lowers;
+            let uppers = net.uppers;
+            let neighbours = net.neighbours;
+            let children = net.children;
+            let preferred = net.preferred;
+            let lanes = lanes_of(&lowers, &uppers, net.links);
+            let answer = take(
+                net.nodes,
+                net.rounds,
+                &parents,
+                &lanes,
+                &neighbours,
+                &children,
+                &preferred,
+                &mut counts,
+                &mut lens,
+                &mut sorts,
+                &mut loads,
+                &mut slots,
+                &mut values,
+                kind,
+                p,
+                q,
+            );
+            return Done {
+                answer,
+                state: State {
+                    counts,
+                    lens,
+                    sorts,
+                    loads,
+                    slots,
+                    values,
+                },
+            };
+        }
+        Done {
+            answer: 17,
+            state: self,
+        }
+    }
 }
