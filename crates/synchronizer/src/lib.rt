@@ -8,12 +8,14 @@ mod valid;
 
 use crate::effect::take;
 use crate::lanes::lanes_of;
+use crate::runner::go_through;
+use crate::runner::turn;
 use crate::valid::in_range;
 use actions::Kind;
 use network::Network;
 ghost use mathlib.Core.Path.{_≡_};
 ghost use Rattle.actions.specs.declared.Kind.the-variants.{Output, PacketSent, PacketDelivered, AckSent, AckDelivered, Ok, SubtreeOkSent, SubtreeOkDelivered, ClusterOk, DownSent, DownDelivered, PreferredSent, PreferredDelivered, UpSent, UpDelivered, ClusterGo, SubtreeGoSent, SubtreeGoDelivered, Go, Input};
-ghost use Rattle.synchronizer.specs.Entry.{doneOf};
+ghost use Rattle.synchronizer.specs.Entry.{doneOf, actOf, listOf};
 
 // What the bench holds between actions.
 pub struct State {
@@ -250,5 +252,120 @@ impl State {
         ensures { λ r. ⌜ r ≡ doneOf net self Input p p ⌝ }
     {
         self.action(net, Kind::Input, p, p)
+    }
+
+    // One action from bytes: 17, then the record's answer. Bytes after the record are not read.
+    pub fn act(self, net: Network, bytes: &[u8]) -> Acted
+        ensures { λ r. ⌜ r ≡ actOf net self (now (bytes .entry)) ⌝ }
+    {
+        let mut counts = self.counts;
+        let mut lens = self.lens;
+        let mut sorts = self.sorts;
+        let mut loads = self.loads;
+        let mut slots = self.slots;
+        let mut values = self.values;
+        if in_range(net, &counts, &lens, &sorts, &loads, &slots, &values) {
+            let bodies = actions::bodies();
+            let parents = net.parents;
+            let lowers = net.lowers;
+            let uppers = net.uppers;
+            let neighbours = net.neighbours;
+            let children = net.children;
+            let preferred = net.preferred;
+            let lanes = lanes_of(&lowers, &uppers, net.links);
+            let did = turn(
+                &bodies,
+                bytes,
+                0,
+                net.nodes,
+                net.rounds,
+                &parents,
+                &lanes,
+                &neighbours,
+                &children,
+                &preferred,
+                &mut counts,
+                &mut lens,
+                &mut sorts,
+                &mut loads,
+                &mut slots,
+                &mut values,
+            );
+            return Acted {
+                answer: did.answer,
+                place: did.used,
+                state: State {
+                    counts,
+                    lens,
+                    sorts,
+                    loads,
+                    slots,
+                    values,
+                },
+            };
+        }
+        Acted {
+            answer: 17,
+            place: 0,
+            state: self,
+        }
+    }
+
+    // A list of actions from bytes: 17 once, then one record after the other up to the first refusal.
+    pub fn run(self, net: Network, bytes: &[u8]) -> Ran
+        ensures { λ r. ⌜ r ≡ listOf net self (now (bytes .entry)) ⌝ }
+    {
+        let mut counts = self.counts;
+        let mut lens = self.lens;
+        let mut sorts = self.sorts;
+        let mut loads = self.loads;
+        let mut slots = self.slots;
+        let mut values = self.values;
+        if in_range(net, &counts, &lens, &sorts, &loads, &slots, &values) {
+            let bodies = actions::bodies();
+            let parents = net.parents;
+            let lowers = net.lowers;
+            let uppers = net.uppers;
+            let neighbours = net.neighbours;
+            let children = net.children;
+            let preferred = net.preferred;
+            let lanes = lanes_of(&lowers, &uppers, net.links);
+            let ended = go_through(
+                &bodies,
+                bytes,
+                net.nodes,
+                net.rounds,
+                &parents,
+                &lanes,
+                &neighbours,
+                &children,
+                &preferred,
+                &mut counts,
+                &mut lens,
+                &mut sorts,
+                &mut loads,
+                &mut slots,
+                &mut values,
+            );
+            return Ran {
+                answer: ended.answer,
+                place: ended.place,
+                taken: ended.taken,
+                state: State {
+                    counts,
+                    lens,
+                    sorts,
+                    loads,
+                    slots,
+                    values,
+                },
+            };
+        }
+        Ran {
+            answer: 17,
+            place: 0,
+            taken: 0,
+            state: self,
+        }
     }
 }

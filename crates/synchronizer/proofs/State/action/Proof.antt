@@ -10,7 +10,6 @@ use Rattle.synchronizer.proofs.State.action.Statement.{statement}
 use Rattle.synchronizer.proofs.State.action.Tie as tie
 
 in-its-range : (c : tie.Then1) → inRange (c .before .before .before .before .before .before .before .before .before .before .before .before .before .before .args .net) (c .before .before .before .before .before .before .before .before .before .before .before .before .before .before .args .self) ≡ true
-
 in-its-range c = sym (c .before .in-range .ensures) ∙ c .if1 .taken
 
 lanes-of-requires : tie.Need-lanes-of-requires
