@@ -1,7 +1,6 @@
 -- What holds of every kind is a test computed over the table of kinds: each kind stands there, at its own index.
 -- Assumes nothing.
-use Prim.Native.Nat.{ℕ, _+_, _-_, _<_, _≤_}
-use native.Mathlib.Omega.{arith}
+use Prim.Native.Nat.{ℕ, _+_, _<_, _≤_}
 use mathlib.Core.Path.{_≡_, refl, sym, _∙_, ap, subst}
 use mathlib.Core.Bool.{Bool, true}
 use lib.Dec.{lit<, eqb, leb}

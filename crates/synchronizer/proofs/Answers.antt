@@ -16,7 +16,7 @@ use Rattle.synchronizer.specs.declared.State.{State}
 use Rattle.synchronizer.specs.declared.test.Shown.{Shown}
 use Rattle.synchronizer.specs.Wires.{Wires, laneIn, isRoot, aroundOf}
 use Rattle.synchronizer.specs.Answer.{countIn, standsIn, startsRound, countAnswer, everyHas, headOf, queueAnswer, ownIn, legalAnswer, needAnswer, answerIn}
-use Rattle.synchronizer.specs.Shown.{plainAnswer, Shows, RowShows, TestShows}
+use Rattle.synchronizer.specs.Shown.{plainAnswer, Shows, TestShows}
 use Rattle.synchronizer.proofs.Rows.{shows-as}
 
 -- the answer is the first that is not 0 of the legal answer and what follows it

@@ -1,10 +1,9 @@
 -- The table of directions, one link after the other.
 -- Assumes nothing.
 use Prim.Native.Nat.{ℕ, _+_}
-use mathlib.Core.Path.{_≡_, refl, sym, _∙_, ap}
+use mathlib.Core.Path.{_≡_, sym, _∙_, ap}
 use mathlib.Core.List.{List}
 use lib.ListN.{getD, replicate}
-use Rattle.laws.specs.Below.{foldBelow}
 use Rattle.laws.proofs.Below.{fold-start, fold-more}
 use Rattle.synchronizer.specs.Wires.{joined, lanesOf}
 

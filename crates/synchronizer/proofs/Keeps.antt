@@ -30,13 +30,14 @@ use Rattle.synchronizer.specs.declared.Done.{Done}
 use Rattle.synchronizer.specs.declared.Acted.{Acted}
 use Rattle.synchronizer.specs.declared.Ran.{Ran}
 use Rattle.synchronizer.specs.Wires.{Wires, wiresOf, laneIn, aroundOf}
-use Rattle.synchronizer.specs.Answer.{countIn, packet, ack, startsRound, ownIn, answerIn, answerOf}
+use Rattle.synchronizer.specs.Answer.{countIn, packet, ack, startsRound, ownIn, answerOf}
 use Rattle.synchronizer.specs.After.{stateOf, Queues, queues, pushed, slotAt, meanHeard, effectIn, counted, afterIn, afterOf}
 use Rattle.synchronizer.specs.Start.{freshWith, startOf}
 use Rattle.synchronizer.specs.Entry.{done, inRange, doneIn, doneOf, actedAs, recordIn, actIn, actOf, listFrom, listOf}
 use Rattle.synchronizer.specs.Valid.{usedBy, entryFits, loadFits, pastFits, validState, Sized}
 use Rattle.synchronizer.proofs.Entries.{set-keeps-at, repeated-at}
 use Rattle.synchronizer.proofs.States.{Message, a-packet, an-ack, entry-of, entry-most, sort-of, load-of, past-of, Passes, valid-passes, passes-valid, used-at-most-256}
+use Rattle.synchronizer.proofs.Turns.{refused-done, refused-act}
 use Rattle.synchronizer.proofs.Waiting.{QueuesSound, pushed-keeps, popped-keeps}
 use Rattle.synchronizer.proofs.Taken.{Taken, answer-0-taken, count-may-rise, taken-lane, taken-own}
 
@@ -237,27 +238,15 @@ module _ (net : Network) (s : State) (h : Sound net s) where
 
 -- ---- a refusal hands the state back
 
-done-in-refused : (w : Wires) (s : State) (k : Kind) (p q : ℕ) → 0 < doneIn w s k p q .answer → doneIn w s k p q .state ≡ s
-unfolding doneIn
-done-in-refused w s k p q =
-    eq-elim {A = Done} (λ r. 0 < r .answer → r .state ≡ s) (answerIn w s k p q) 0 _ _ (λ _ h. absurd (omega arith)) (λ _ _. refl)
-
-act-in-refused : (w : Wires) (s : State) (r : Record) → 0 < recordIn w s r .answer → recordIn w s r .state ≡ s
-unfolding recordIn actedAs
-act-in-refused w s Record.Unknown = λ _. refl
-act-in-refused w s Record.Short = λ _. refl
-act-in-refused w s (Record.Act k p q width) =
-    eq-elim {A = Acted} (λ r. 0 < r .answer → r .state ≡ s) (doneIn w s k p q .answer) 0 _ _ (λ _ h. absurd (omega arith)) (λ _. done-in-refused w s k p q)
-
 pub done-refused : (net : Network) (s : State) (k : Kind) (p q : ℕ) → 0 < doneOf net s k p q .answer → doneOf net s k p q .state ≡ s
 unfolding doneOf
 done-refused net s k p q =
-    b-elim {A = Done} (λ r. 0 < r .answer → r .state ≡ s) (inRange net s) _ _ (λ _. done-in-refused (wiresOf net) s k p q) (λ _ _. refl)
+    b-elim {A = Done} (λ r. 0 < r .answer → r .state ≡ s) (inRange net s) _ _ (λ _. refused-done (wiresOf net) s k p q) (λ _ _. refl)
 
 pub act-refused : (net : Network) (s : State) (bytes : List ℕ) → 0 < actOf net s bytes .answer → actOf net s bytes .state ≡ s
-unfolding actOf actIn
+unfolding actOf
 act-refused net s bytes =
-    b-elim {A = Acted} (λ r. 0 < r .answer → r .state ≡ s) (inRange net s) _ _ (λ _. act-in-refused (wiresOf net) s (readAt bytes 0)) (λ _ _. refl)
+    b-elim {A = Acted} (λ r. 0 < r .answer → r .state ≡ s) (inRange net s) _ _ (λ _. refused-act (wiresOf net) s bytes 0) (λ _ _. refl)
 
 -- ---- the start state
 

@@ -12,7 +12,6 @@ pub mod Rows
 pub mod States
 pub mod Taken
 pub mod Taking
-pub mod Trials
 pub mod Turns
 pub mod Waiting
 pub mod Walks

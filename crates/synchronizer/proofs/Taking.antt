@@ -1,7 +1,7 @@
 -- From the test and the effect to the whole of an action: where the answer is 0, the count at the cell that the test shows and the effect at its
 -- direction give the state after; where not, the state stays.
 -- Assumes nothing.
-use Prim.Native.Nat.{ℕ, suc, _+_, _<_, _≤_}
+use Prim.Native.Nat.{ℕ, _+_, _<_}
 use native.Mathlib.Omega.{arith}
 use native.Mathlib.Decide.{decLt}
 use mathlib.Core.Path.{_≡_, refl, sym, _∙_, ap, subst}
@@ -15,7 +15,7 @@ use Rattle.actions.specs.declared.Does.{Does}
 use Rattle.actions.specs.Kinds.{count, cellOf}
 use Rattle.actions.specs.Table.{placeOf, ownOf, doesOf}
 use Rattle.synchronizer.specs.declared.State.{State}
-use Rattle.synchronizer.specs.Wires.{Wires, wires, hearing, laneIn}
+use Rattle.synchronizer.specs.Wires.{Wires, hearing, laneIn}
 use Rattle.synchronizer.specs.Answer.{countIn, ownIn, needAnswer, answerIn}
 use Rattle.synchronizer.specs.After.{stateOf, effectIn, counted, afterIn}
 use Rattle.synchronizer.specs.Shown.{seen}

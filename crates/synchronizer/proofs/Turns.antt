@@ -5,7 +5,6 @@ use native.Mathlib.Omega.{arith}
 use mathlib.Core.Path.{_≡_, refl, sym, _∙_, ap, subst}
 use mathlib.Core.List.{List}
 use lib.ListN.{length}
-use Rattle.laws.specs.Choice.{ifEq}
 use Rattle.laws.proofs.Choice.{ifLt-yes, ifLt-no, ifEq-yes, ifEq-no, eq-elim}
 use Rattle.actions.specs.declared.Kind.{Kind}
 use Rattle.actions.specs.declared.Record.{Record}

@@ -1,7 +1,7 @@
 -- A walk over a set from its lowest member up, with a test of each: the laws of such a loop. What holds of the set holds of the lowest member
 -- and of the set without it.
 -- Assumes nothing.
-use Prim.Native.Nat.{ℕ, _^_, _<_, _≤_}
+use Prim.Native.Nat.{ℕ, _^_, _<_}
 use native.Mathlib.Decide.{ℕ-discrete}
 use mathlib.Core.Path.{_≡_, sym, _∙_, ap, subst}
 use mathlib.Core.Bool.{Bool, true, false}

@@ -1,7 +1,7 @@
 -- The answer to an action: 0 where it is taken, else the first of 13, 14, 15, 16, 18 that applies. The table of what each action names, needs
 -- and does is that of the crate `actions`; this file says when a row of it holds. Nothing here changes a state.
 -- Assumes nothing.
-use Prim.Native.Nat.{ℕ, _+_, _*_}
+use Prim.Native.Nat.{ℕ, _*_}
 use mathlib.Core.Bool.{Bool, true, false, not}
 use mathlib.Core.List.{List}
 use lib.Dec.{ltb}
@@ -12,7 +12,6 @@ use Rattle.network.specs.declared.Network.{Network}
 use Rattle.actions.specs.declared.Kind.{Kind}
 use Rattle.actions.specs.declared.Place.{Place}
 use Rattle.actions.specs.declared.Counter.{Counter}
-use Rattle.actions.specs.declared.Around.{Around}
 use Rattle.actions.specs.declared.Every.{Every}
 use Rattle.actions.specs.declared.Does.{Does}
 use Rattle.actions.specs.Kinds.{count, cellOf}

@@ -9,8 +9,6 @@ use Rattle.network.specs.declared.Network.{Network}
 use Rattle.actions.specs.declared.Record.{Record}
 use Rattle.actions.specs.Records.{readAt}
 use Rattle.synchronizer.specs.declared.State.{State}
-use Rattle.synchronizer.specs.declared.Acted.{Acted}
-use Rattle.synchronizer.specs.declared.Done.{Done}
 use Rattle.synchronizer.specs.declared.Ran.{Ran}
 use Rattle.synchronizer.specs.Entry.{ran, doneOf, actOf}
 

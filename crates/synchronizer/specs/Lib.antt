@@ -4,6 +4,5 @@ pub mod Entry
 pub mod InTurn
 pub mod Shown
 pub mod Start
-pub mod Trials
 pub mod Valid
 pub mod Wires

@@ -125,10 +125,10 @@ pub(crate) fn go_through(
             slots,
             values,
         );
-        let answer = did.answer;
-        if 0 < answer {
+        let number = did.answer;
+        if 0 < number {
             return Ended {
-                answer,
+                answer: number,
                 place: at,
                 taken,
             };

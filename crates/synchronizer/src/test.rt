@@ -17,7 +17,7 @@ ghost use mathlib.Core.Bool.{true, not};
 ghost use Prim.Native.Nat.{_<_, _≤_};
 ghost use lib.Dec.{ltb};
 ghost use lib.ListN.{getD};
-ghost use Rattle.laws.specs.Choice.{ifB, ifLt, both};
+ghost use Rattle.laws.specs.Choice.{ifB, both};
 ghost use Rattle.nodeset.specs.Marks.{member};
 ghost use Rattle.actions.specs.Kinds.{count};
 ghost use Rattle.actions.specs.Table.{knowsBy, mayGoBy};

@@ -1,6 +1,6 @@
 -- `index`: every number is at least 16, and every kind stands in the table.
 -- Assumes nothing.
-use mathlib.Core.Path.{_≡_, sym, _∙_, ap, subst}
+use mathlib.Core.Path.{sym, ap, subst}
 use Prim.Native.Nat.{_-_, _<_, _≤_}
 use lib.ListN.{length}
 use borrow.Author.Needs.{needs}

@@ -8,7 +8,6 @@ use lib.ListN.{length}
 use Rattle.synchronizer.specs.Wires.{wires}
 use Rattle.synchronizer.specs.After.{stateOf}
 use Rattle.synchronizer.proofs.Turns.{turn-moves, Going, going-start, going-on, going-stops, going-ends}
-use borrow.Author.Needs.{needs}
 use Rattle.synchronizer.proofs.runner.go_through.Statement.{statement}
 use Rattle.synchronizer.proofs.runner.go_through.Tie as tie
 

@@ -1,10 +1,8 @@
 -- `children_have`: what is left to ask decides as the whole set does; a child that has not the word decides at once.
 -- Assumes nothing.
 
-use Prim.Native.Nat.{ℕ}
 use native.Mathlib.Omega.{arith}
-use mathlib.Core.Path.{_≡_, refl, sym, _∙_}
-use mathlib.Core.Bool.{Bool}
+use mathlib.Core.Path.{_≡_, sym, _∙_}
 use lib.Dec.{ltb}
 use Rattle.actions.specs.Kinds.{count}
 use Rattle.synchronizer.specs.Answer.{countIn, childrenHave}

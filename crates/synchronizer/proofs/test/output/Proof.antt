@@ -4,7 +4,6 @@
 use Prim.Native.Nat.{_<_, _≤_}
 use native.Mathlib.Omega.{arith}
 use mathlib.Core.Path.{refl, sym, _∙_}
-use mathlib.Core.Bool.{true}
 use lib.ListN.{getD}
 use borrow.Author.Tests.{ltb-true, ltb-false}
 use Rattle.laws.proofs.Choice.{picks}

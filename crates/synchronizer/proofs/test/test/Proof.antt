@@ -2,7 +2,6 @@
 -- Assumes nothing.
 
 use mathlib.Core.Path.{refl, sym}
-use Prim.Native.Nat.{_<_}
 use native.Mathlib.Omega.{arith}
 use Rattle.laws.specs.Choice.{ifB}
 use Rattle.actions.specs.Table.{placeOf, ownOf, needOf, everyOf, doesOf}
