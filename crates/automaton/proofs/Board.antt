@@ -6,15 +6,17 @@ use Prim.Native.Nat.{ℕ, suc}
 use mathlib.Core.Path.{_≡_, refl}
 use mathlib.Core.Bool.{true}
 use mathlib.Core.List.{List, [], _∷_, _++_, map}
+use lib.ListN.{replicate}
 use Rattle.laws.specs.Choice.{ifB, ifEq, both}
-use Rattle.automaton.specs.Lists.{every, pickBelow}
+use Rattle.laws.specs.Below.{pickBelow}
+use Rattle.automaton.specs.Lists.{every}
 use Rattle.automaton.specs.Actions.{Act, same, bodyOf, output, packetSent, packetDelivered, ackSent, ackDelivered, ok}
 use Rattle.automaton.specs.Actions.{subtreeOkSent, subtreeOkDelivered, clusterOk, downSent, downDelivered}
 use Rattle.automaton.specs.Actions.{preferredSent, preferredDelivered, upSent, upDelivered, clusterGo}
 use Rattle.automaton.specs.Actions.{subtreeGoSent, subtreeGoDelivered, go, input}
 use Rattle.automaton.specs.Network.{Net, isRoot, neighbours, children, preferredNeighbours}
 use Rattle.automaton.specs.Needs.{know, may, subtreeNeeds, upNeeds, needsOf}
-use Rattle.automaton.specs.Global.{Global, packet, parity, begin}
+use Rattle.automaton.specs.Global.{Global, packet, ack, parity, begin}
 use Rattle.automaton.specs.Answer.{sends, must, packetAtFront, ackAtFront, met, fits, known, legal, next, inTime, enabled, room, answer}
 use Rattle.automaton.specs.Run.{onCount, onQueue, carried, onSlot, heard, onValue, after, step, run}
 use Rattle.automaton.specs.Lockstep.{lockstep}
@@ -31,10 +33,14 @@ refusals net s i [] = []
 refusals net s i (a ∷ l) =
     ifEq (answer net s a) 0 [] ((i, answer net s a) ∷ []) ++ refusals net (step net s a) (suc i) l
 
+-- the answer to each of the actions in one state
+pub answers : Net ℕ → Global ℕ → List Act → List ℕ
+answers net s = map (answer net s)
+
 -- the values at the end of a run from the start state, and its refusals
 pub outcome : Net ℕ → List Act → List ℕ × List (ℕ × ℕ)
 unfolding
-    row refusals run step answer after onCount onQueue carried onSlot heard onValue next
+    row refusals answers run step answer after onCount onQueue carried onSlot heard onValue next
     known legal fits inTime enabled room sends must met packetAtFront ackAtFront begin parity
     needsOf know may subtreeNeeds upNeeds isRoot neighbours children preferredNeighbours
     bodyOf same every pickBelow ifB ifEq both planT planP planC
@@ -68,18 +74,33 @@ second-output-of-2 = refl
 
 -- "P: packet 0 to 2: 14. Node 7: 13. Subtree ok by node 1: 14. Cluster ok by node 0: 14"
 pub refused-on-P :
-    outcome (planP 1) (packetSent 0 2 ∷ output 7 ∷ subtreeOkSent 1 ∷ clusterOk 0 ∷ []) .1
-    ≡ (0, 14) ∷ (1, 13) ∷ (2, 14) ∷ (3, 14) ∷ []
+    answers (planP 1) (begin (planP 1)) (packetSent 0 2 ∷ output 7 ∷ subtreeOkSent 1 ∷ clusterOk 0 ∷ []) ≡ 14 ∷ 13 ∷ 14 ∷ 14 ∷ []
 unfolding outcome
 refused-on-P = refl
 
--- "18: kind 17 or 19 with two messages already queued", in a state that no run reaches
-pub queue-full :
-    answer (planT 3) (record { count = λ a. ifB (same a (output 0)) 3 2; queue = λ p q. packet 1 ∷ packet 2 ∷ []; slot = λ p q h. 0; value = λ p. 0 })
-    (packetSent 0 1)
-    ≡ 18
+-- 14 for each kind that can have it: no such link, an ordinary one, a root where a parent is needed, no root
+pub misplaced-on-P :
+    answers (planP 1) (begin (planP 1))
+    (packetSent 0 0 ∷ packetDelivered 0 2 ∷ ackSent 2 0 ∷ ackDelivered 2 2 ∷ preferredSent 0 1 ∷ preferredDelivered 1 0
+    ∷ subtreeOkDelivered 1 ∷ downSent 1 ∷ downDelivered 1 ∷ upSent 1 ∷ upDelivered 1 ∷ subtreeGoSent 1 ∷ subtreeGoDelivered 1
+    ∷ clusterGo 2 ∷ [])
+    ≡ replicate 14 14
 unfolding outcome
-queue-full = refl
+misplaced-on-P = refl
+
+-- a state that no run reaches: from 0 two packets wait, and from 1 an ack that was never sent
+pub at-odds :
+    answers (planT 3)
+    (record {
+      count = λ a. ifB (same a (output 0)) 3 (ifB (same a (packetSent 0 1)) 2 (ifB (same a (packetDelivered 0 1)) 1 0));
+      queue = λ p q. ifEq p 0 (packet 1 ∷ packet 2 ∷ []) (ack ∷ []);
+      slot = λ p q h. 0;
+      value = λ p. 0;
+    })
+    (packetSent 0 1 ∷ ackDelivered 1 0 ∷ [])
+    ≡ 18 ∷ 16 ∷ []
+unfolding outcome
+at-odds = refl
 
 -- ---- one round of plan T, in pieces
 
@@ -155,3 +176,34 @@ pub no-acks :
     ≡ (200 ∷ 200 ∷ [], map (λ i. (i, 16)) (4 ∷ 5 ∷ 6 ∷ 7 ∷ 8 ∷ 9 ∷ 10 ∷ 11 ∷ 12 ∷ 13 ∷ 14 ∷ 15 ∷ []))
 unfolding outcome
 no-acks = refl
+
+-- ---- each action waits for the one before it
+
+-- a chain of actions in which each is offered once before the one that it waits for, and then in its turn
+abbrev pub hasty : Act → List Act → List Act
+hasty a [] = a ∷ []
+hasty a (b ∷ l) = b ∷ a ∷ hasty b l
+
+-- around the cluster of two, from the leaf's output to its next one
+pub hasty-in-a-cluster :
+    outcome (planC 2)
+    (output 0 ∷ packetSent 0 1 ∷ packetDelivered 0 1 ∷ ackSent 1 0 ∷ ackDelivered 1 0 ∷ ok 0
+    ∷ hasty (output 1)
+    (packetSent 1 0 ∷ packetDelivered 1 0 ∷ ackSent 0 1 ∷ ackDelivered 0 1 ∷ ok 1 ∷ subtreeOkSent 1 ∷ subtreeOkDelivered 1 ∷ clusterOk 0
+    ∷ downSent 1 ∷ downDelivered 1 ∷ upSent 1 ∷ upDelivered 1 ∷ clusterGo 0 ∷ subtreeGoSent 1 ∷ subtreeGoDelivered 1 ∷ go 1 ∷ input 1
+    ∷ output 1 ∷ []))
+    ≡ (
+      100 ∷ 200 ∷ [],
+      map (λ i. (i, 16)) (6 ∷ 8 ∷ 10 ∷ 12 ∷ 14 ∷ 16 ∷ 18 ∷ 20 ∷ 22 ∷ 24 ∷ 26 ∷ 28 ∷ 30 ∷ 32 ∷ 34 ∷ 36 ∷ 38 ∷ 40 ∷ []),
+    )
+unfolding outcome
+hasty-in-a-cluster = refl
+
+-- across a preferred link, from one root to the other
+pub hasty-between-clusters :
+    outcome (planT 1)
+    (sent ++ delivered ++ ok 0 ∷ ok 1 ∷ clusterOk 1
+    ∷ hasty (clusterOk 0) (preferredSent 0 1 ∷ preferredDelivered 0 1 ∷ clusterGo 1 ∷ go 1 ∷ input 1 ∷ []))
+    ≡ (100 ∷ 200 ∷ [], map (λ i. (i, 16)) (13 ∷ 15 ∷ 17 ∷ 19 ∷ 21 ∷ []))
+unfolding outcome
+hasty-between-clusters = refl

@@ -9,7 +9,8 @@ use mathlib.Core.List.{List, [], _∷_, _++_, map}
 use Rattle.laws.specs.Choice.{ifB}
 use Rattle.laws.proofs.Choice.{ifB-yes, b-elim, both-left, both-right}
 use Rattle.laws.proofs.Below.{below-split}
-use Rattle.automaton.specs.Lists.{every, pickBelow}
+use Rattle.laws.specs.Below.{pickBelow}
+use Rattle.automaton.specs.Lists.{every}
 
 module _ {A : Type 0} where
   abbrev pub Every : (A → Type 0) → List A → Type 0

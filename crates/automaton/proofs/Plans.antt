@@ -10,14 +10,11 @@ use lib.Dec.{eqb}
 use lib.ListN.{length, getD}
 use borrow.Author.Tests.{eqb-true}
 use Rattle.laws.specs.Choice.{ifB, both}
+use Rattle.laws.specs.Lists.{total}
 use Rattle.laws.proofs.Choice.{both-left, both-right}
 use Rattle.automaton.specs.Network.{Net}
 use Rattle.automaton.specs.Clusters.{climb, rootOf}
 use Rattle.automaton.specs.Accepted.{Accepted, Joining}
-
-unfoldable pub total : List ℕ → ℕ
-total [] = 0
-total (x ∷ xs) = x + total xs
 
 -- "(own value + the values in the slots of i's parity from each neighbour) divided by (1 + number of neighbours), the remainder dropped"
 unfoldable pub mean : ℕ → List ℕ → ℕ

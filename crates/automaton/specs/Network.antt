@@ -6,7 +6,7 @@ use mathlib.Core.Bool.{Bool, not}
 use mathlib.Core.List.{List}
 use lib.Dec.{eqb}
 use Rattle.laws.specs.Choice.{both}
-use Rattle.automaton.specs.Lists.{pickBelow}
+use Rattle.laws.specs.Below.{pickBelow}
 
 pub record Net (Value : Type 0) : Type 0 where
   -- how many nodes, and how many rounds

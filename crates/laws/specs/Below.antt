@@ -40,3 +40,8 @@ overBelow f (suc n) xs = set (overBelow f n xs) n (f n)
 unfoldable pub listBelow : {A : Type 0} → (ℕ → A) → ℕ → List A
 listBelow f zero = []
 listBelow f (suc n) = listBelow f n ++ f n ∷ []
+
+-- the numbers below n that pass the test, in rising order
+unfoldable pub pickBelow : (ℕ → Bool) → ℕ → List ℕ
+pickBelow t zero = []
+pickBelow t (suc n) = pickBelow t n ++ ifB (t n) (n ∷ []) []

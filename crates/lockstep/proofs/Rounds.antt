@@ -11,11 +11,11 @@ use lib.ListN.{length, getD}
 use Rattle.laws.proofs.Below.{length-over, over-below, over-above}
 use Rattle.nodeset.specs.Marks.{member}
 use Rattle.network.specs.declared.Network.{Network}
-use Rattle.lockstep.specs.Members.{valuesIn}
+use Rattle.nodeset.specs.Marks.{valuesIn}
 use Rattle.lockstep.specs.Rule.{ruleOf, meanOf}
 use Rattle.lockstep.specs.Rounds.{nextBy, roundBy, roundsBy, lockstepOf}
-use Rattle.lockstep.proofs.Members.{values-same}
-use Rattle.lockstep.proofs.Over.{over-keeps}
+use Rattle.nodeset.proofs.Members.{values-same}
+use Rattle.laws.proofs.Below.{over-keeps}
 use Rattle.lockstep.proofs.Rule.{rule-below}
 
 -- the mean over the values of all nodes is the node's new value

@@ -8,9 +8,10 @@ use mathlib.Core.List.{List}
 use lib.ListN.{length, getD}
 use Rattle.nodeset.specs.Marks.{sizeOf, sumIn}
 use Rattle.nodeset.proofs.Members.{sum-in-at-most}
-use Rattle.lockstep.specs.Members.{valuesIn}
-use Rattle.lockstep.specs.Rule.{shareOf, total, ruleOf, meanOf}
-use Rattle.lockstep.proofs.Members.{length-values, total-values}
+use Rattle.nodeset.specs.Marks.{valuesIn}
+use Rattle.laws.specs.Lists.{total}
+use Rattle.lockstep.specs.Rule.{shareOf, ruleOf, meanOf}
+use Rattle.nodeset.proofs.Members.{length-values, total-values}
 
 pub mean-by-marks : (m own : ℕ) (heard : List ℕ) → meanOf m own heard ≡ shareOf (own + sumIn (λ q. getD heard q 0) m) (1 + sizeOf m)
 unfolding meanOf ruleOf

@@ -5,7 +5,6 @@ use native.Mathlib.Omega.{arith}
 use mathlib.Core.Path.{_≡_, refl, _∙_, ap}
 use mathlib.Core.Bool.{true}
 use mathlib.Core.List.{List}
-use borrow.Author.Tests.{leb-true}
 use lib.ListN.{length, getD}
 use Rattle.laws.specs.Choice.{ifLt}
 use Rattle.laws.specs.Below.{overBelow}
@@ -16,11 +15,6 @@ use Rattle.network.specs.Valid.{withinLimits, validNetwork}
 use Rattle.lockstep.specs.Rounds.{lockstepOf}
 use Rattle.lockstep.specs.Table.{tableNumber, tableOf}
 use Rattle.lockstep.proofs.Rounds.{lockstep-start}
-
--- a network within the ranges of 17 has at most 64 nodes
-pub valid-at-most-64 : (net : Network) → validNetwork net ≡ true → net .nodes ≤ 64
-unfolding validNetwork withinLimits
-valid-at-most-64 net v = leb-true (net .nodes) 64 (both-left _ _ (both-right _ _ (both-left _ _ v)))
 
 -- what an accepted table may rest on
 pub record Accepted (net : Network) (rounds room : ℕ) : Type 0 where

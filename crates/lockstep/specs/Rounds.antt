@@ -5,7 +5,7 @@ use mathlib.Core.List.{List}
 use lib.ListN.{getD}
 use Rattle.laws.specs.Below.{overBelow}
 use Rattle.network.specs.declared.Network.{Network}
-use Rattle.lockstep.specs.Members.{valuesIn}
+use Rattle.nodeset.specs.Marks.{valuesIn}
 use Rattle.lockstep.specs.Rule.{ruleOf}
 
 -- node p's new value by the rule, where xs has the values of all nodes and sets their neighbour sets

@@ -1,17 +1,14 @@
 -- How a node's new value comes from its own and its neighbours' values. Nothing else in the bench says how.
 -- Assumes nothing.
 use Prim.Native.Nat.{ℕ, _+_, _/_}
-use mathlib.Core.List.{List, [], _∷_}
+use mathlib.Core.List.{List}
 use lib.ListN.{length, getD}
-use Rattle.lockstep.specs.Members.{valuesIn}
+use Rattle.laws.specs.Lists.{total}
+use Rattle.nodeset.specs.Marks.{valuesIn}
 
 -- "divided by .., the remainder dropped"
 unfoldable pub shareOf : ℕ → ℕ → ℕ
 shareOf sum count = sum / count
-
-unfoldable pub total : List ℕ → ℕ
-total [] = 0
-total (x ∷ xs) = x + total xs
 
 -- "(own value + the values .. from each neighbour) divided by (1 + number of neighbours), the remainder dropped"
 unfoldable pub ruleOf : ℕ → List ℕ → ℕ

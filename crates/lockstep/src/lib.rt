@@ -5,7 +5,7 @@ ghost use mathlib.Core.Path.{_≡_};
 ghost use Prim.Native.Nat.{_+_, _*_, _≤_, _<_};
 ghost use lib.ListN.{length, getD};
 ghost use Rattle.laws.specs.Below.{overBelow};
-ghost use Rattle.nodeset.specs.Marks.{removed, sizeOf, lowestOf, sumIn};
+ghost use Rattle.nodeset.specs.Marks.{sizeOf, sumIn};
 ghost use Rattle.lockstep.specs.Rule.{shareOf, ruleOf, meanOf};
 ghost use Rattle.lockstep.specs.Rounds.{roundBy, roundsBy};
 ghost use Rattle.lockstep.specs.Table.{tableNumber, tableOf};
@@ -34,19 +34,6 @@ fn share(sum: u32, count: u32) -> u16
     (sum / count) as u16
 }
 
-// The set without its lowest member: one mask, and no look at the member.
-fn without_lowest(set: NodeSet) -> NodeSet
-    ensures { λ r. ⌜ r .marks ≡ removed (set .marks) (lowestOf (set .marks)) ⌝ }
-{
-    let marks = set.marks;
-    if marks == 0 {
-        return set;
-    }
-    NodeSet {
-        marks: marks & (marks - 1),
-    }
-}
-
 // The sum of what was heard from the members of the set: at most 65,535 for each.
 fn sum_in(set: NodeSet, heard: &[u16; 64]) -> u32
     ensures { λ r. ⌜ (r ≡ sumIn (λ q. getD (now (heard .entry)) q 0) (set .marks)) × (r ≤ 65535 * sizeOf (set .marks)) ⌝ }
@@ -56,7 +43,7 @@ fn sum_in(set: NodeSet, heard: &[u16; 64]) -> u32
     while 0 < rest.marks {
         let q = rest.lowest() as usize;
         sum += wide(heard[q]);
-        let others = without_lowest(rest);
+        let others = rest.without_lowest();
         rest = others;
     }
     sum

@@ -1,3 +1,4 @@
 pub mod Digits
+pub mod Lowest
 pub mod Marks
 pub mod Members

@@ -7,11 +7,14 @@ use native.Mathlib.Omega.{arith}
 use mathlib.Core.Path.{_≡_, refl, sym, _∙_, ap}
 use mathlib.Core.Bool.{Bool, true, false}
 use native.Mathlib.Decide.{ℕ-discrete}
+use lib.ListN.{length}
 use Rattle.laws.specs.Choice.{ifB}
 use Rattle.laws.specs.Below.{allBelow, sumBelow, countBelow}
 use Rattle.laws.proofs.Choice.{ifB-yes, ifB-no, b-elim, same-test, not-true-false, true-not-false}
-use Rattle.laws.proofs.Below.{all-at, all-of, sum-but-one, sum-same, sum-scaled, sum-zero}
-use Rattle.nodeset.specs.Marks.{member, inserted, removed, sizeOf, allIn, sumIn}
+use Rattle.laws.proofs.Below.{all-at, all-of, sum-but-one, sum-same, sum-at-most, sum-scaled, sum-zero}
+use Rattle.laws.specs.Lists.{total}
+use Rattle.laws.proofs.Picked.{length-picked, picked-same, total-picked}
+use Rattle.nodeset.specs.Marks.{member, inserted, removed, sizeOf, allIn, sumIn, membersOf, valuesIn}
 use Rattle.nodeset.proofs.Marks.{member-below, empty-has-none, inserted-is-in, inserted-keeps-others, removed-is-out, removed-keeps-others}
 
 -- ---- every member
@@ -91,3 +94,23 @@ sum-in-at-most f c m b =
     term : (k : ℕ) (t : Bool) → member m k ≡ t → ifB (member m k) (f k) 0 ≤ ifB (member m k) 1 0 * c
     term k true i = omega (arith, b k i, ifB-yes (member m k) (f k) 0 i, ap (λ x. x * c) (ifB-yes {A = ℕ} (member m k) 1 0 i))
     term k false o = omega (arith, ifB-no (member m k) (f k) 0 o)
+
+-- ---- the members as a list
+
+-- "its size is a count of them"
+pub length-values : {A : Type 0} (f : ℕ → A) (m : ℕ) → length (valuesIn f m) ≡ sizeOf m
+unfolding valuesIn membersOf sizeOf
+length-values f m = length-picked f (member m) 64
+
+pub total-values : (f : ℕ → ℕ) (m : ℕ) → total (valuesIn f m) ≡ sumIn f m
+unfolding valuesIn membersOf sumIn
+total-values f m = total-picked f (member m) 64
+
+pub values-same : {A : Type 0} (f g : ℕ → A) (m : ℕ) → ((k : ℕ) → member m k ≡ true → f k ≡ g k) → valuesIn f m ≡ valuesIn g m
+unfolding valuesIn membersOf
+values-same f g m e = picked-same f g (member m) 64 e
+
+pub size-at-most-64 : (m : ℕ) → sizeOf m ≤ 64
+unfolding sizeOf countBelow
+size-at-most-64 m =
+    sum-at-most (λ k. ifB (member m k) 1 0) 1 64 (λ k _. b-elim (λ x. x ≤ 1) (member m k) 1 0 (λ _. omega arith) (λ _. omega arith))

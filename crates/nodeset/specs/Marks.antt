@@ -2,10 +2,10 @@
 -- Assumes nothing.
 use Prim.Native.Nat.{ℕ, _+_, _-_, _/_, _%_, _^_}
 use mathlib.Core.Bool.{Bool, true, false}
-use mathlib.Core.List.{List, [], _∷_, _++_}
+use mathlib.Core.List.{List, map}
 use lib.Dec.{eqb}
 use Rattle.laws.specs.Choice.{ifB, ifLt}
-use Rattle.laws.specs.Below.{allBelow, sumBelow, countBelow, firstOf}
+use Rattle.laws.specs.Below.{allBelow, sumBelow, countBelow, firstOf, pickBelow}
 
 -- mark k of the marks m
 unfoldable pub digit : ℕ → ℕ → ℕ
@@ -38,3 +38,11 @@ allIn t m = allBelow (λ k. ifB (member m k) (t k) true) 64
 -- the sum of f over the members
 unfoldable pub sumIn : (ℕ → ℕ) → ℕ → ℕ
 sumIn f m = sumBelow (λ k. ifB (member m k) (f k) 0) 64
+
+-- the members in rising order
+unfoldable pub membersOf : ℕ → List ℕ
+membersOf m = pickBelow (member m) 64
+
+-- what f gives for each member, in rising order of the members
+unfoldable pub valuesIn : {A : Type 0} → (ℕ → A) → ℕ → List A
+valuesIn f m = map f (membersOf m)

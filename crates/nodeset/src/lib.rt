@@ -61,4 +61,17 @@ impl NodeSet {
     {
         u64::trailing_zeros(self.marks)
     }
+
+    // The set without its lowest member: one mask, and no look at the member.
+    pub fn without_lowest(self) -> NodeSet
+        ensures { λ r. ⌜ r .marks ≡ removed (self .marks) (lowestOf (self .marks)) ⌝ }
+    {
+        let marks = self.marks;
+        if marks == 0 {
+            return self;
+        }
+        NodeSet {
+            marks: marks & (marks - 1),
+        }
+    }
 }

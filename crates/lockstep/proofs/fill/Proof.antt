@@ -7,7 +7,7 @@ use borrow.Author.Needs.{needs}
 use lib.ListN.{length, getD}
 use Rattle.laws.specs.Below.{overBelow}
 use Rattle.laws.proofs.Below.{over-start, over-more, length-over}
-use Rattle.lockstep.proofs.Over.{over-end}
+use Rattle.laws.proofs.Below.{over-end}
 use Rattle.lockstep.proofs.fill.Statement.{statement}
 use Rattle.lockstep.proofs.fill.Tie as tie
 

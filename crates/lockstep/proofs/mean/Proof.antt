@@ -2,7 +2,7 @@
 -- Assumes nothing.
 use native.Mathlib.Omega.{arith}
 use borrow.Author.Needs.{needs}
-use Rattle.lockstep.proofs.Members.{size-at-most-64}
+use Rattle.nodeset.proofs.Members.{size-at-most-64}
 use Rattle.lockstep.proofs.Rule.{mean-by-marks}
 use Rattle.lockstep.proofs.mean.Statement.{statement}
 use Rattle.lockstep.proofs.mean.Tie as tie

@@ -8,7 +8,7 @@ use Rattle.laws.specs.Below.{overBelow}
 use Rattle.laws.proofs.Below.{over-start, over-more}
 use Rattle.lockstep.specs.Rule.{ruleOf}
 use Rattle.lockstep.specs.Rounds.{nextBy, roundBy}
-use Rattle.lockstep.proofs.Over.{over-end}
+use Rattle.laws.proofs.Below.{over-end}
 use Rattle.lockstep.proofs.Rounds.{mean-is-next}
 use Rattle.lockstep.proofs.round.Statement.{statement}
 use Rattle.lockstep.proofs.round.Tie as tie

@@ -10,7 +10,7 @@ use lib.ListN.{getD}
 use Rattle.nodeset.specs.Marks.{member, removed, sizeOf, sumIn}
 use Rattle.nodeset.proofs.Marks.{lowest-is-in, lowest-below, removed-less}
 use Rattle.nodeset.proofs.Members.{sum-in-rest, sum-in-empty, size-rest}
-use Rattle.lockstep.proofs.Members.{size-at-most-64}
+use Rattle.nodeset.proofs.Members.{size-at-most-64}
 use Rattle.lockstep.proofs.sum_in.Statement.{statement}
 use Rattle.lockstep.proofs.sum_in.Tie as tie
 

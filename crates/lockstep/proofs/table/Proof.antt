@@ -1,14 +1,16 @@
 -- `table`: a refused table returns before anything is written. An accepted one has a valid network, so that there are at most 64 nodes, and a
 -- buffer with room for them; what is written is the run of the asked rounds.
 -- Assumes nothing.
+use Prim.Native.Nat.{_≤_}
 use native.Mathlib.Omega.{arith}
 use mathlib.Core.Path.{_≡_, sym, _∙_, ap}
 use borrow.Author.Needs.{needs}
 use lib.ListN.{length, getD}
 use Rattle.laws.specs.Below.{overBelow}
+use Rattle.network.proofs.Valid.{valid-clauses}
 use Rattle.lockstep.specs.Rounds.{lockstepOf}
 use Rattle.lockstep.specs.Table.{tableNumber}
-use Rattle.lockstep.proofs.Tables.{Accepted, accepted, valid-at-most-64, refused-unwritten, accepted-written}
+use Rattle.lockstep.proofs.Tables.{Accepted, accepted, refused-unwritten, accepted-written}
 use Rattle.lockstep.proofs.table.Statement.{statement}
 use Rattle.lockstep.proofs.table.Tie as tie
 
@@ -26,13 +28,8 @@ rests-on c =
     let start = c .before .before .before .before .before .args in
     accepted (start .net) (start .rounds) (length (start .out .now)) (is-accepted c)
 
-values-after-requires : tie.Need-values-after-requires
-values-after-requires c κs = valid-at-most-64 (c .before .before .before .before .before .before .before .args .net) (rests-on (c .before .before) .valid)
-
-fill-requires : tie.Need-fill-requires
-fill-requires c κs =
-    let sure = rests-on (c .before .before .before .before .before) in
-    (valid-at-most-64 (c .before .before .before .before .before .before .before .before .before .before .args .net) (sure .valid), sure .has-room)
+few-nodes : (c : tie.Else1) → c .before .before .before .before .before .args .net .nodes ≤ 64
+few-nodes c = valid-clauses (c .before .before .before .before .before .args .net) (rests-on c .valid) .limits .at-most-64-nodes
 
 returns-2 : tie.Need-returns-2
 unfolding lockstepOf
@@ -47,4 +44,4 @@ returns-2 c =
 
 pub table-spec : {M : Type 1} → statement M
 table-spec =
-    tie.close (tie.spec (λ c κs. search needs) returns values-after-requires fill-requires (λ c. search needs) returns-2)
+    tie.close (tie.spec (λ c κs. search needs) returns (λ c κs. few-nodes (c .before .before)) (λ c κs. (few-nodes (c .before .before .before .before .before), rests-on (c .before .before .before .before .before) .has-room)) (λ c. search needs) returns-2)

@@ -1,19 +1,17 @@
--- The list of a set's members. It is made one number at a time, so each law goes up the numbers: the values of the members below n + 1 are those
--- of the members below n, and n's own where n is a member.
+-- The numbers that pass a test, as a list. It is made one number at a time, so each law goes up the numbers: what stands for those below n + 1
+-- is what stands for those below n, and n's own where n passes.
 -- Assumes nothing.
-use Prim.Native.Nat.{ℕ, zero, suc, _+_, _≤_}
+use Prim.Native.Nat.{ℕ, zero, suc, _+_, _≤_, _<_}
 use native.Mathlib.Omega.{arith}
 use mathlib.Core.Path.{_≡_, refl, sym, _∙_, ap, ap₂}
-use mathlib.Core.Bool.{Bool, true}
-use mathlib.Core.List.{List, [], _∷_, _++_, map, map-append}
+use native.Mathlib.Decide.{decLe}
+use mathlib.Core.Bool.{Bool, true, false}
+use mathlib.Core.List.{List, [], _∷_, _++_, map, map-append, append-nil}
 use lib.ListN.{length, length-append}
 use Rattle.laws.specs.Choice.{ifB}
-use Rattle.laws.specs.Below.{sumBelow, countBelow}
+use Rattle.laws.specs.Below.{sumBelow, countBelow, pickBelow}
+use Rattle.laws.specs.Lists.{total}
 use Rattle.laws.proofs.Choice.{ifB-yes, ifB-no, b-elim}
-use Rattle.laws.proofs.Below.{sum-at-most}
-use Rattle.nodeset.specs.Marks.{member, sizeOf, sumIn}
-use Rattle.lockstep.specs.Members.{pickBelow, membersOf, valuesIn}
-use Rattle.lockstep.specs.Rule.{total}
 
 module _ {A : Type 0} (f : ℕ → A) (t : ℕ → Bool) where
   picked-more : (n : ℕ) → map f (pickBelow t (suc n)) ≡ map f (pickBelow t n) ++ ifB (t n) (f n ∷ []) []
@@ -53,22 +51,23 @@ total-picked f t (suc n) =
     ∙ total-append (map f (pickBelow t n)) (ifB (t n) (f n ∷ []) [])
     ∙ ap₂ _+_ (total-picked f t n) (b-elim (λ l. total l ≡ ifB (t n) (f n) 0) (t n) (f n ∷ []) [] (λ e. omega (arith, ifB-yes (t n) (f n) 0 e)) (λ e. sym (ifB-no (t n) (f n) 0 e)))
 
--- ---- of a set
+-- two tests that agree below n pick the same numbers
+pub pick-same : (s t : ℕ → Bool) (n : ℕ) → ((k : ℕ) → k < n → s k ≡ t k) → pickBelow s n ≡ pickBelow t n
+unfolding pickBelow
+pick-same s t zero e = refl
+pick-same s t (suc n) e =
+    ap₂ (λ (l : List ℕ) (b : Bool). l ++ ifB b (n ∷ []) []) (pick-same s t n (λ k h. e k (omega arith))) (e n (omega arith))
 
--- "its size is a count of them"
-pub length-values : {A : Type 0} (f : ℕ → A) (m : ℕ) → length (valuesIn f m) ≡ sizeOf m
-unfolding valuesIn membersOf sizeOf
-length-values f m = length-picked f (member m) 64
-
-pub total-values : (f : ℕ → ℕ) (m : ℕ) → total (valuesIn f m) ≡ sumIn f m
-unfolding valuesIn membersOf sumIn
-total-values f m = total-picked f (member m) 64
-
-pub values-same : {A : Type 0} (f g : ℕ → A) (m : ℕ) → ((k : ℕ) → member m k ≡ true → f k ≡ g k) → valuesIn f m ≡ valuesIn g m
-unfolding valuesIn membersOf
-values-same f g m e = picked-same f g (member m) 64 e
-
-pub size-at-most-64 : (m : ℕ) → sizeOf m ≤ 64
-unfolding sizeOf countBelow
-size-at-most-64 m =
-    sum-at-most (λ k. ifB (member m k) 1 0) 1 64 (λ k _. b-elim (λ x. x ≤ 1) (member m k) 1 0 (λ _. omega arith) (λ _. omega arith))
+-- numbers from n on that fail the test add nothing
+pub pick-past : (t : ℕ → Bool) (n m : ℕ) → n ≤ m → ((k : ℕ) → n ≤ k → t k ≡ false) → pickBelow t m ≡ pickBelow t n
+unfolding pickBelow
+pick-past t n zero h f =
+    let e : 0 ≡ n = omega arith in
+    ap (pickBelow t) e
+pick-past t n (suc m) h f = at (decLe n m) (λ l. pick-past t n m l f)
+  where
+    at : Dec (n ≤ m) → (n ≤ m → pickBelow t m ≡ pickBelow t n) → pickBelow t m ++ ifB (t m) (m ∷ []) [] ≡ pickBelow t n
+    at (yes l) r = ap (λ x. pickBelow t m ++ x) (ifB-no (t m) (m ∷ []) [] (f m l)) ∙ append-nil (pickBelow t m) ∙ r l
+    at (no l) r =
+        let e : suc m ≡ n = omega arith in
+        ap (pickBelow t) e

@@ -1,0 +1,97 @@
+-- The state after an action that is taken: "its count then becomes i", and what the action does besides.
+-- Assumes nothing.
+use Prim.Native.Nat.{ℕ, _+_, _-_, _*_, _%_}
+use mathlib.Core.List.{List}
+use lib.ListN.{getD, set}
+use Rattle.laws.specs.Choice.{ifLt}
+use Rattle.network.specs.declared.Network.{Network}
+use Rattle.nodeset.specs.Marks.{valuesIn}
+use Rattle.lockstep.specs.Rule.{ruleOf}
+use Rattle.actions.specs.declared.Kind.{Kind}
+use Rattle.actions.specs.declared.Counter.{Counter}
+use Rattle.actions.specs.declared.Does.{Does}
+use Rattle.actions.specs.Kinds.{cellOf}
+use Rattle.actions.specs.Table.{doesOf}
+use Rattle.synchronizer.specs.declared.State.{State}
+use Rattle.synchronizer.specs.Wires.{Wires, wiresOf, laneIn}
+use Rattle.synchronizer.specs.Answer.{countIn, packet, ack, ownIn}
+
+-- a state of its arrays
+abbrev pub stateOf : List ℕ → List ℕ → List ℕ → List ℕ → List ℕ → List ℕ → State
+stateOf counts lens sorts loads slots values =
+    record { counts = counts; lens = lens; sorts = sorts; loads = loads; slots = slots; values = values }
+
+-- the queues of all directions: how many wait, and the sort and the value of each
+pub record Queues : Type 0 where
+  pub lens : List ℕ
+  pub sorts : List ℕ
+  pub loads : List ℕ
+
+abbrev pub queues : List ℕ → List ℕ → List ℕ → Queues
+queues lens sorts loads = record { lens = lens; sorts = sorts; loads = loads }
+
+-- a message joins the queue of direction d at its end: "first in first out, .. with room for two", so a third would not enter
+unfoldable pub pushed : Queues → ℕ → ℕ → ℕ → Queues
+pushed u d sort load =
+    ifLt n 2 (queues (set (u .lens) d (n + 1)) (set (u .sorts) (d * 2 + n) sort) (set (u .loads) (d * 2 + n) load)) u
+  where
+    n : ℕ
+    n = getD (u .lens) d 0
+
+-- the second entry moves up, and its place is cleared
+unfoldable pub movedUp : List ℕ → ℕ → List ℕ
+movedUp xs d = set (set xs (d * 2) (getD xs (d * 2 + 1) 0)) (d * 2 + 1) 0
+
+-- the first message of direction d leaves the queue
+unfoldable pub popped : Queues → ℕ → Queues
+popped u d = ifLt 0 n (queues (set (u .lens) d (n - 1)) (movedUp (u .sorts) d) (movedUp (u .loads) d)) u
+  where
+    n : ℕ
+    n = getD (u .lens) d 0
+
+-- "of odd and of even rounds": the slot of direction d for round i
+abbrev pub slotAt : ℕ → ℕ → ℕ
+slotAt d i = d * 2 + i % 2
+
+-- "(own value + the values in the slots of i's parity from each neighbour) divided by (1 + number of neighbours), the remainder dropped"
+unfoldable pub meanHeard : List ℕ → List ℕ → ℕ → ℕ → ℕ → ℕ → ℕ
+meanHeard lanes slots neighbours p own i = ruleOf own (valuesIn (λ q. getD slots (slotAt (laneIn lanes q p) i) 0) neighbours)
+
+module _ (w : Wires) where
+  -- what the action does besides counting, where d is the direction from p to q and it is taken the i-th time
+  unfoldable pub effectIn : Does → ℕ → ℕ → ℕ → State → State
+  effectIn Does.Starts p d i s = s
+  effectIn Does.Counts p d i s = s
+  -- "A packet carries the value its sender has when the packet is sent"
+  effectIn Does.SendsPacket p d i s =
+      let u : Queues = pushed (queues (s .lens) (s .sorts) (s .loads)) d packet (getD (s .values) p 0) in
+      stateOf (s .counts) (u .lens) (u .sorts) (u .loads) (s .slots) (s .values)
+  effectIn Does.SendsAck p d i s =
+      let u : Queues = pushed (queues (s .lens) (s .sorts) (s .loads)) d ack 0 in
+      stateOf (s .counts) (u .lens) (u .sorts) (u .loads) (s .slots) (s .values)
+  -- "Delivery i puts it in the slot of i's parity"
+  effectIn Does.TakesPacket p d i s =
+      let u : Queues = popped (queues (s .lens) (s .sorts) (s .loads)) d in
+      stateOf (s .counts) (u .lens) (u .sorts) (u .loads) (set (s .slots) (slotAt d i) (getD (s .loads) (d * 2) 0)) (s .values)
+  effectIn Does.TakesAck p d i s =
+      let u : Queues = popped (queues (s .lens) (s .sorts) (s .loads)) d in
+      stateOf (s .counts) (u .lens) (u .sorts) (u .loads) (s .slots) (s .values)
+  -- "Input i of p sets its value"
+  effectIn Does.Means p d i s =
+      stateOf (s .counts) (s .lens) (s .sorts) (s .loads) (s .slots)
+      (set (s .values) p (meanHeard (w .lanes) (s .slots) (getD (w .neighbours) p 0) p (getD (s .values) p 0) i))
+
+  -- "its count then becomes i"
+  unfoldable pub counted : State → Counter → ℕ → State
+  counted s c i = stateOf (set (s .counts) (cellOf c) i) (s .lens) (s .sorts) (s .loads) (s .slots) (s .values)
+
+  -- the state after the action, where it is taken
+  unfoldable pub afterIn : State → Kind → ℕ → ℕ → State
+  afterIn s k p q = effectIn (doesOf k) p (laneIn (w .lanes) p q) i (counted s (ownIn w k p q) i)
+    where
+      i : ℕ
+      i = countIn (s .counts) (ownIn w k p q) + 1
+
+-- of a network
+abbrev pub afterOf : Network → State → Kind → ℕ → ℕ → State
+afterOf net = afterIn (wiresOf net)

@@ -1,0 +1,7 @@
+pub mod After
+pub mod Answer
+pub mod Entry
+pub mod Start
+pub mod Trials
+pub mod Valid
+pub mod Wires
