@@ -1,0 +1,4 @@
+pub mod Breach
+pub mod Count
+pub mod Links
+pub mod Worked

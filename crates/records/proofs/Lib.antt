@@ -1,0 +1,12 @@
+pub mod Answers
+pub mod Begun
+pub mod Bodies
+pub mod Codec
+pub mod Keeping
+pub mod Lists
+pub mod Networks
+pub mod Outcome
+pub mod Rising
+pub mod Rules
+pub mod Through
+pub mod Turns

@@ -1,0 +1,12 @@
+-- `zeros`: every field is written out.
+-- Assumes nothing.
+use borrow.Author.Needs.{needs}
+use Rattle.records.specs.Reader.{zeroNetwork}
+use Rattle.records.proofs.zeros.Statement.{statement}
+use Rattle.records.proofs.zeros.Tie as tie
+
+pub zeros-spec : {M : Type 1} → statement M
+unfolding zeroNetwork
+zeros-spec =
+    tie.close
+    (tie.spec (λ c. search needs))

@@ -1,0 +1,6 @@
+pub mod Keeps
+pub mod Numbers
+pub mod Plan
+pub mod Reader
+pub mod Record
+pub mod Rules
