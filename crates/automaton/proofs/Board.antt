@@ -78,6 +78,13 @@ pub refused-on-P :
 unfolding outcome
 refused-on-P = refl
 
+-- 13 from the node count on, for either number, and before 14
+pub unknown-on-P :
+    answers (planP 1) (begin (planP 1)) (output 2 ∷ output 3 ∷ packetSent 3 0 ∷ packetSent 0 3 ∷ packetSent 0 2 ∷ [])
+    ≡ 0 ∷ 13 ∷ 13 ∷ 13 ∷ 14 ∷ []
+unfolding outcome
+unknown-on-P = refl
+
 -- 14 for each kind that can have it: no such link, an ordinary one, a root where a parent is needed, no root
 pub misplaced-on-P :
     answers (planP 1) (begin (planP 1))
@@ -88,17 +95,17 @@ pub misplaced-on-P :
 unfolding outcome
 misplaced-on-P = refl
 
--- a state that no run reaches: from 0 two packets wait, and from 1 an ack that was never sent
+-- a state that no run reaches: two packets wait from 0, all that were sent counted as delivered, and an ack from 1 that was never sent
 pub at-odds :
     answers (planT 3)
     (record {
-      count = λ a. ifB (same a (output 0)) 3 (ifB (same a (packetSent 0 1)) 2 (ifB (same a (packetDelivered 0 1)) 1 0));
+      count = λ a. ifB (same a (output 0)) 3 (ifB (same a (packetSent 0 1)) 2 (ifB (same a (packetDelivered 0 1)) 2 0));
       queue = λ p q. ifEq p 0 (packet 1 ∷ packet 2 ∷ []) (ack ∷ []);
       slot = λ p q h. 0;
       value = λ p. 0;
     })
-    (packetSent 0 1 ∷ ackDelivered 1 0 ∷ [])
-    ≡ 18 ∷ 16 ∷ []
+    (packetSent 0 1 ∷ packetDelivered 0 1 ∷ ackDelivered 1 0 ∷ [])
+    ≡ 18 ∷ 16 ∷ 16 ∷ []
 unfolding outcome
 at-odds = refl
 

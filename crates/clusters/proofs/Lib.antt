@@ -1,3 +1,4 @@
 pub mod Checks
+pub mod Joining
 pub mod Roots
 pub mod Worked

@@ -1,8 +1,8 @@
 // The clusters of a plan: checks 8 and 9, and how many clusters there are. A cluster is told by its root, so both checks go by the table of
 // the roots of all nodes.
-use links::at_most;
 use links::joins;
 use network::Network;
+use network::at_most;
 use tree::root_in;
 use tree::root_number;
 ghost use mathlib.Core.Path.{_≡_};

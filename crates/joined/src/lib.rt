@@ -1,7 +1,7 @@
 // Whether all nodes are joined through links: check 10 of a plan. The walk starts at node 0 and keeps a list of nodes still to visit; it
 // assumes nothing of the checks before it.
-use links::at_most;
 use network::Network;
+use network::at_most;
 use nodeset::NodeSet;
 ghost use mathlib.Core.Path.{_≡_};
 ghost use mathlib.Core.Bool.{not};

@@ -46,6 +46,10 @@ pub pair-sym : {a b p q : ℕ} → SamePair a b p q → SamePair a b q p
 pair-sym (straight e f) = crossed e f
 pair-sym (crossed e f) = straight e f
 
+pub pair-of : {a b c d p q : ℕ} → c ≡ a → d ≡ b → SamePair a b p q → SamePair c d p q
+pair-of x y (straight e f) = straight (x ∙ e) (y ∙ f)
+pair-of x y (crossed e f) = crossed (x ∙ e) (y ∙ f)
+
 -- ---- some link joins p and q
 
 module _ (lowers uppers : List ℕ) (n : ℕ) where

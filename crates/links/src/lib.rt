@@ -1,5 +1,6 @@
 // The list of links of a network: which two nodes a link joins, and whether some link joins two nodes. What the whole-plan checks
 // 6, 9 and 10 say of links is said here.
+use network::at_most;
 ghost use mathlib.Core.Path.{_≡_};
 ghost use Prim.Native.Nat.{_≤_, min};
 ghost use Rattle.links.specs.Links.{pairIs, joins, linkBetween, hasLink};
@@ -22,16 +23,6 @@ pub fn joins(a: u8, b: u8, p: u8, q: u8) -> bool
         return true;
     }
     pair_is(a, b, q, p)
-}
-
-// The lower of two counts: how many entries of a list there are to read.
-pub fn at_most(count: usize, entries: usize) -> usize
-    ensures { λ r. ⌜ r ≡ min count entries ⌝ }
-{
-    if count < entries {
-        return count;
-    }
-    entries
 }
 
 // The first of the links that joins p and q, and their number where none does.

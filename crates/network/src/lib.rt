@@ -93,10 +93,11 @@ fn child_sets(parents: &[u8; 64], nodes: usize) -> [u64; 64]
     sets
 }
 
-fn at_most(n: usize, limit: usize) -> usize
-    ensures { λ r. ⌜ r ≡ min n limit ⌝ }
+// The lower of two counts: how many entries of a list there are to read.
+pub fn at_most(count: usize, entries: usize) -> usize
+    ensures { λ r. ⌜ r ≡ min count entries ⌝ }
 {
-    if n < limit { n } else { limit }
+    if count < entries { count } else { entries }
 }
 
 fn within_limits(nodes: usize, links: usize, rounds: u16) -> bool
@@ -144,7 +145,7 @@ fn nodes_fit(nodes: usize, parents: &[u8; 64], starts: &[u16; 64]) -> bool
 }
 
 // "links in strictly rising order of (a, b)"
-fn pair_rises(a: u8, b: u8, c: u8, d: u8) -> bool
+pub fn pair_rises(a: u8, b: u8, c: u8, d: u8) -> bool
     ensures { λ r. ⌜ r ≡ rises a b c d ⌝ }
 {
     if a < c {

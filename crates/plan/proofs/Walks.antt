@@ -1,14 +1,14 @@
 -- The five walks one after the other. Each answers the first breach of its rule, so the walks together answer the first rule that is broken and
 -- where, or that all are kept; and these are the only answers.
 -- Assumes nothing.
-use Prim.Native.Nat.{ℕ, _<_, _≤_}
+use Prim.Native.Nat.{ℕ}
 use native.Mathlib.Omega.{arith}
-use mathlib.Core.Path.{_≡_, refl, sym, _∙_, ap, ap₂}
-use Rattle.laws.proofs.Choice.{lt-elim, ifLt-yes, ifLt-no}
+use mathlib.Core.Path.{_≡_, refl, sym, _∙_, ap}
+use Rattle.laws.proofs.Choice.{lt-elim}
 use Rattle.network.specs.declared.Network.{Network}
 use Rattle.records.specs.declared.Planned.{Planned}
 use Rattle.records.specs.Numbers.{accepted}
-use Rattle.records.specs.Reader.{zeroNetwork, answered, refusedWith, acceptedWith}
+use Rattle.records.specs.Reader.{refusedWith, acceptedWith}
 use Rattle.links.specs.Breach.{Breach}
 use Rattle.links.specs.Links.{nodesOf, linksOf}
 use Rattle.links.proofs.Breach.{breach-unique}
@@ -42,28 +42,20 @@ module _ (Rule : ℕ → Type 0) (n first : ℕ) (B : Breach Rule n first) (numb
       found : Breach Rule n w
       found = record { within = omega (arith, F .below); broken = λ _. F .broken; kept-before = F .kept-before }
 
--- the same, as the code has it: it knows the first and the count by other names
-pub step-passes : (f m number first count : ℕ) (rest : Planned) → first ≡ f → count ≡ m → count ≤ first → unlessBelow f m number rest ≡ rest
-step-passes f m number first count rest e q h = ifLt-no f m (refusedWith number f) rest (omega arith)
-
-pub step-stops : (f m number first count : ℕ) (none : Network) (rest : Planned) → first ≡ f → count ≡ m → first < count → none ≡ zeroNetwork → answered number first none ≡ unlessBelow f m number rest
-step-stops f m number first count none rest e q h z =
-    ap₂ (answered number) e z ∙ sym (ifLt-yes f m (refusedWith number f) rest (omega arith))
-
 -- ---- all five
 
 module _ (net : Network) (n : ℕ) where
   -- what is left to answer after a check is passed
-  abbrev pub after-9 : Planned
+  abbrev after-9 : Planned
   after-9 = unlessBelow (firstUnjoined net) (nodesOf net) unjoined (acceptedWith n net)
 
-  abbrev pub after-8 : Planned
+  abbrev after-8 : Planned
   after-8 = unlessBelow (firstNotOne net) (linksOf net) notOne after-9
 
-  abbrev pub after-7 : Planned
+  abbrev after-7 : Planned
   after-7 = unlessBelow (firstInside net) (linksOf net) inside after-8
 
-  abbrev pub after-6 : Planned
+  abbrev after-6 : Planned
   after-6 = unlessBelow (firstLost net) (nodesOf net) lost after-7
 
   pub checks-cases : (P : Planned → Type 0) → ((k w : ℕ) → Breaks6to10 net k w → P (refusedWith k w)) → (Keeps6to10 net → P (acceptedWith n net)) → P (checksOf net n)

@@ -3,8 +3,8 @@
 use clusters::first_inside;
 use clusters::first_not_one;
 use joined::first_unjoined;
-use links::at_most;
 use network::Network;
+use network::at_most;
 use records::ACCEPTED;
 use records::Planned;
 use records::answer;

@@ -13,6 +13,7 @@ use Rattle.records.specs.Numbers.{accepted}
 use Rattle.records.specs.Reader.{zeroNetwork, refusedWith, acceptedWith, listsOf}
 use Rattle.records.specs.Plan.{Plan, bytesOf, networkOf, Keeps1to5}
 use Rattle.records.specs.Keeps.{Bytes, Accepted1to5, Refused1to5}
+use Rattle.records.proofs.Networks.{one-plan}
 use Rattle.records.proofs.Outcome.{Outcome, taken, stopped, outcome}
 use Rattle.records.proofs.Through.{accepted-answer, refused-answer}
 
@@ -67,3 +68,9 @@ pub written-plan-is-read : (p : Plan) → Keeps1to5 p → (rest : List ℕ) → 
 written-plan-is-read p K rest =
     accepted-answer (bytesOf p ++ rest) (length (bytesOf p)) (networkOf p)
     (record { plan = p; keeps = K; within = omega (arith, length-append (bytesOf p) rest); bytes = take-append-seam (bytesOf p) rest; network = refl })
+
+-- bytes hold one plan at the most
+pub only-plan : (s : List ℕ) {n m : ℕ} {net other : Network} (A : Accepted1to5 s n net) (B : Accepted1to5 s m other) → A .plan ≡ B .plan
+only-plan s {n} {m} {net} {other} A B =
+    let same : net ≡ other = ap (λ x. x .network) (sym (accepted-answer s n net A) ∙ accepted-answer s m other B) in
+    one-plan (A .plan) (B .plan) (sym (A .network) ∙ same ∙ B .network)

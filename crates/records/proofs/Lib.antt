@@ -3,6 +3,7 @@ pub mod Begun
 pub mod Bodies
 pub mod Codec
 pub mod Keeping
+pub mod Kept
 pub mod Lists
 pub mod Networks
 pub mod Outcome

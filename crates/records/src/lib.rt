@@ -2,11 +2,11 @@
 ghost use mathlib.Core.Path.{_≡_};
 ghost use Prim.Native.Nat.{_+_, _<_, _≤_};
 ghost use lib.ListN.{length};
-ghost use Rattle.network.specs.Valid.{rises};
 ghost use Rattle.records.specs.Record.{bodyLength, pairOf, recordAt, readAt};
 ghost use Rattle.records.specs.Rules.{roundsRule, nodeRule, linkRule, endRule, followsOf, ruleOf};
 ghost use Rattle.records.specs.Reader.{zeroNetwork, roundsAdded, nodeAdded, linkAdded, HasRoom, addOf, closesOf, answered, listsOf};
 use network::Network;
+use network::pair_rises;
 
 // The plan's numbers that one record decides.
 pub const ACCEPTED: u8 = 0;
@@ -115,19 +115,6 @@ impl Cursor {
     }
 }
 
-// "links in strictly rising order of (a, b)": (a, b) stands below (c, d)
-fn rises(a: u8, b: u8, c: u8, d: u8) -> bool
-    ensures { λ r. ⌜ r ≡ rises a b c d ⌝ }
-{
-    if a < c {
-        return true;
-    }
-    if a == c {
-        return b < d;
-    }
-    false
-}
-
 // The link (a, b) stands above the last one, if there is one: "compared as written before any range is looked at".
 fn follows(net: Network, a: u8, b: u8) -> bool
     requires { ⌜ net .links ≤ 128 ⌝ }
@@ -138,7 +125,7 @@ fn follows(net: Network, a: u8, b: u8) -> bool
         return true;
     }
     let last = links - 1;
-    rises(net.lowers[last], net.uppers[last], a, b)
+    pair_rises(net.lowers[last], net.uppers[last], a, b)
 }
 
 fn rounds_rule(rounds: u16, v: u16) -> u8

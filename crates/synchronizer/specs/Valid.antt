@@ -7,7 +7,7 @@ use mathlib.Core.Bool.{Bool, true, false}
 use mathlib.Core.List.{List}
 use mathlib.Core.Logic.{_⊎_}
 use lib.ListN.{length, getD}
-use lib.Dec.{ltb, leb, eqb}
+use lib.Dec.{leb, eqb}
 use Rattle.laws.specs.Choice.{ifLt, ifEq, both}
 use Rattle.laws.specs.Below.{allBelow}
 use Rattle.network.specs.declared.Network.{Network}
@@ -18,51 +18,63 @@ use Rattle.synchronizer.specs.declared.State.{State}
 use Rattle.synchronizer.specs.Answer.{countIn, packet, ack}
 
 -- how many counts of a kind are in use: one for each node, or one for each direction of each link
-unfoldable pub usedBy : Network → Kind → ℕ
-usedBy net k = ifEq (bodyOf k) 1 (net .nodes) (net .links * 2)
+unfoldable pub usedBy : ℕ → ℕ → Kind → ℕ
+usedBy nodes links k = ifEq (bodyOf k) 1 nodes (links * 2)
 
--- "a count is above rounds", and past the node or link count it is 0
-unfoldable pub countFits : ℕ → ℕ → ℕ → ℕ → Bool
-countFits rounds used x n = leb n (ifLt x used rounds 0)
+-- the entry n at place x is at most so much where x is in use; "an entry past the node or link count .. is not 0"
+unfoldable pub entryFits : ℕ → ℕ → ℕ → ℕ → Bool
+entryFits most used x n = leb n (ifLt x used most 0)
 
--- the counts of the kind at an index of the table of kinds
-unfoldable pub rowFits : Network → List ℕ → ℕ → Bool
-rowFits net counts i =
-    allBelow (λ x. countFits (net .rounds) (usedBy net (kindAt i)) x (countIn counts (count (kindAt i) x))) 256
+-- "a count is above rounds": the counts of one kind
+unfoldable pub rowFits : ℕ → ℕ → List ℕ → Kind → Bool
+rowFits rounds used counts k = allBelow (λ x. entryFits rounds used x (countIn counts (count k x))) 256
 
--- "a waiting message is neither packet nor ack, or is an ack with a value"; "an entry past a queue's length is not 0"
+unfoldable pub countsFit : ℕ → ℕ → ℕ → List ℕ → Bool
+countsFit nodes links rounds counts =
+    allBelow (λ i. rowFits rounds (usedBy nodes links (kindAt i)) counts (kindAt i)) (length kinds)
+
+-- "a queue is said to hold more than two"
+unfoldable pub lengthsFit : ℕ → List ℕ → Bool
+lengthsFit links lens = allBelow (λ d. entryFits 2 (links * 2) d (getD lens d 0)) 256
+
+-- place j of a queue: "a waiting message is neither packet nor ack, or is an ack with a value"; "an entry past .. a queue's length, is not 0"
 unfoldable pub messageFits : ℕ → ℕ → ℕ → ℕ → Bool
 messageFits len j sort load =
     ifLt j len (ifEq sort packet true (ifEq sort ack (eqb load 0) false)) (both (eqb sort 0) (eqb load 0))
 
--- "a queue is said to hold more than two", and past the link count it holds none
-unfoldable pub lengthFits : ℕ → ℕ → ℕ → Bool
-lengthFits used d len = leb len (ifLt d used 2 0)
+-- the two places of the queue of direction d
+unfoldable pub queueFits : List ℕ → List ℕ → List ℕ → ℕ → Bool
+queueFits lens sorts loads d =
+    both (messageFits (getD lens d 0) 0 (getD sorts (d * 2) 0) (getD loads (d * 2) 0))
+    (messageFits (getD lens d 0) 1 (getD sorts (d * 2 + 1) 0) (getD loads (d * 2 + 1) 0))
 
--- an entry past a count is 0
+unfoldable pub queuesFit : List ℕ → List ℕ → List ℕ → Bool
+queuesFit lens sorts loads = allBelow (queueFits lens sorts loads) 256
+
+-- any number where x is in use, and 0 past the count
 unfoldable pub pastFits : ℕ → ℕ → ℕ → Bool
 pastFits used x n = ifLt x used true (eqb n 0)
 
--- the queue and the slots of direction d
-unfoldable pub laneFits : ℕ → List ℕ → List ℕ → List ℕ → List ℕ → ℕ → Bool
-laneFits used lens sorts loads slots d =
-    both (lengthFits used d (getD lens d 0))
-    (both (messageFits (getD lens d 0) 0 (getD sorts (d * 2) 0) (getD loads (d * 2) 0))
-    (both (messageFits (getD lens d 0) 1 (getD sorts (d * 2 + 1) 0) (getD loads (d * 2 + 1) 0))
-    (both (pastFits used d (getD slots (d * 2) 0)) (pastFits used d (getD slots (d * 2 + 1) 0)))))
+unfoldable pub restFits : ℕ → List ℕ → ℕ → Bool
+restFits used xs n = allBelow (λ x. pastFits used x (getD xs x 0)) n
+
+-- the arrays of a state, for a network of so many nodes, links and rounds; a link has two directions, and each direction two slots
+unfoldable pub stateFits : ℕ → ℕ → ℕ → List ℕ → List ℕ → List ℕ → List ℕ → List ℕ → List ℕ → Bool
+stateFits nodes links rounds counts lens sorts loads slots values =
+    both (countsFit nodes links rounds counts)
+    (both (lengthsFit links lens)
+    (both (queuesFit lens sorts loads) (both (restFits (links * 4) slots 512) (restFits nodes values 64))))
 
 -- the state is within the ranges of answer 17
 unfoldable pub validState : Network → State → Bool
 validState net s =
-    both (allBelow (rowFits net (s .counts)) (length kinds))
-    (both (allBelow (laneFits (net .links * 2) (s .lens) (s .sorts) (s .loads) (s .slots)) 256)
-    (allBelow (λ p. pastFits (net .nodes) p (getD (s .values) p 0)) 64))
+    stateFits (net .nodes) (net .links) (net .rounds) (s .counts) (s .lens) (s .sorts) (s .loads) (s .slots) (s .values)
 
 -- ---- the same list as propositions, clause by clause in document 01's words
 
 -- "a count is above rounds"
 pub record CountsInRounds (net : Network) (s : State) : Type 0 where
-  pub in-rounds : (k : Kind) (x : ℕ) → x < usedBy net k → countIn (s .counts) (count k x) ≤ net .rounds
+  pub in-rounds : (k : Kind) (x : ℕ) → x < usedBy (net .nodes) (net .links) k → countIn (s .counts) (count k x) ≤ net .rounds
 
 -- "a queue is said to hold more than two; a waiting message is neither packet nor ack, or is an ack with a value"
 pub record QueuesInOrder (net : Network) (s : State) : Type 0 where
@@ -71,7 +83,7 @@ pub record QueuesInOrder (net : Network) (s : State) : Type 0 where
 
 -- "an entry past the node or link count, or past a queue's length, is not 0"
 pub record RestIsZero (net : Network) (s : State) : Type 0 where
-  pub no-count : (k : Kind) (x : ℕ) → usedBy net k ≤ x → x < 256 → countIn (s .counts) (count k x) ≡ 0
+  pub no-count : (k : Kind) (x : ℕ) → usedBy (net .nodes) (net .links) k ≤ x → x < 256 → countIn (s .counts) (count k x) ≡ 0
   pub no-queue : (d : ℕ) → net .links * 2 ≤ d → d < 256 → getD (s .lens) d 0 ≡ 0
   pub no-sort : (d j : ℕ) → d < 256 → getD (s .lens) d 0 ≤ j → j < 2 → getD (s .sorts) (d * 2 + j) 0 ≡ 0
   pub no-load : (d j : ℕ) → d < 256 → getD (s .lens) d 0 ≤ j → j < 2 → getD (s .loads) (d * 2 + j) 0 ≡ 0

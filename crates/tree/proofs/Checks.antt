@@ -6,7 +6,7 @@ use Prim.Native.Nat.{ℕ, _<_}
 use native.Mathlib.Omega.{arith}
 use native.Mathlib.Decide.{ℕ-discrete}
 use mathlib.Core.Path.{_≡_, refl, sym, _∙_, ap}
-use mathlib.Core.Bool.{true, false, not}
+use mathlib.Core.Bool.{Bool, true, false, not}
 use mathlib.Core.List.{List}
 use borrow.Author.Tests.{not-true, not-false}
 use Rattle.laws.specs.Choice.{ifLt}
@@ -25,20 +25,23 @@ use Rattle.tree.proofs.Roots.{found-exactly, leads-root, leads-to-root-
 -- ---- 6, of a node p and its parent q
 
 module _ (lowers uppers : List ℕ) (links nodes p q : ℕ) where
+  abbrev linked : Bool
+  linked = hasLink lowers uppers links p q
+
   abbrev Ties : Type 0
   Ties = (q ≡ p → ⊥) → (q < nodes) × Linked lowers uppers links p q
 
   tied-keeps : untied lowers uppers links nodes p q ≡ false → Ties
   unfolding untied
   tied-keeps =
-      eq-elim (λ t. t ≡ false → Ties) q p false (ifLt q nodes (not (hasLink lowers uppers links p q)) true) (λ root _ no-root. absurd (no-root root))
-      (λ _. lt-elim (λ t. t ≡ false → Ties) q nodes (not (hasLink lowers uppers links p q)) true (λ h e _. (h, has-link-linked lowers uppers links p q (not-false (hasLink lowers uppers links p q) e))) (λ _ e. absurd (true-not-false true refl e)))
+      eq-elim (λ t. t ≡ false → Ties) q p false (ifLt q nodes (not linked) true) (λ root _ no-root. absurd (no-root root))
+      (λ _. lt-elim (λ t. t ≡ false → Ties) q nodes (not linked) true (λ h e _. (h, has-link-linked lowers uppers links p q (not-false linked e))) (λ _ e. absurd (true-not-false true refl e)))
 
   untied-breaks : untied lowers uppers links nodes p q ≡ true → Ties → ⊥
   unfolding untied
   untied-breaks =
-      eq-elim (λ t. t ≡ true → Ties → ⊥) q p false (ifLt q nodes (not (hasLink lowers uppers links p q)) true) (λ _ e _. true-not-false false e refl)
-      (λ no-root. lt-elim (λ t. t ≡ true → Ties → ⊥) q nodes (not (hasLink lowers uppers links p q)) true (λ _ e tied. true-not-false (hasLink lowers uppers links p q) (linked-has-link lowers uppers links p q (tied no-root .1)) (not-true (hasLink lowers uppers links p q) e)) (λ h _ tied. omega (arith, tied no-root .0)))
+      eq-elim (λ t. t ≡ true → Ties → ⊥) q p false (ifLt q nodes (not linked) true) (λ _ e _. true-not-false false e refl)
+      (λ no-root. lt-elim (λ t. t ≡ true → Ties → ⊥) q nodes (not linked) true (λ _ e tied. true-not-false linked (linked-has-link lowers uppers links p q (tied no-root .1)) (not-true linked e)) (λ h _ tied. omega (arith, tied no-root .0)))
 
 module _ (net : Network) where
   abbrev up : ℕ → ℕ
@@ -48,7 +51,8 @@ module _ (net : Network) where
   pub untied-is-breach : Breach (Tied net) (nodesOf net) (firstUntied net)
   unfolding firstUntied Tied
   untied-is-breach =
-      first-is-breach (λ p. untied (net .lowers) (net .uppers) (linksOf net) (nodesOf net) p (up p)) (Tied net) (nodesOf net) (λ p _. tied-keeps (net .lowers) (net .uppers) (linksOf net) (nodesOf net) p (up p))
+      first-is-breach (λ p. untied (net .lowers) (net .uppers) (linksOf net) (nodesOf net) p (up p)) (Tied net) (nodesOf net)
+      (λ p _. tied-keeps (net .lowers) (net .uppers) (linksOf net) (nodesOf net) p (up p))
       (λ p _. untied-breaks (net .lowers) (net .uppers) (linksOf net) (nodesOf net) p (up p))
 
   -- where 6 does not apply, every parent is a node
@@ -64,7 +68,9 @@ module _ (net : Network) where
   pub lost-is-breach : Breach (EndsAtRoot net) (nodesOf net) (firstLost net)
   unfolding firstLost
   lost-is-breach =
-      first-is-breach (λ p. lost (rootFrom up (nodesOf net) (nodesOf net) p)) (EndsAtRoot net) (nodesOf net) (λ p _. keeps p (rootFrom up (nodesOf net) (nodesOf net) p) refl) (λ p _. breaks p)
+      first-is-breach (λ p. lost (rootFrom up (nodesOf net) (nodesOf net) p)) (EndsAtRoot net) (nodesOf net)
+      (λ p _. keeps p (rootFrom up (nodesOf net) (nodesOf net) p) refl)
+      (λ p _. breaks p)
     where
       keeps : (p : ℕ) (c : Climb) → rootFrom up (nodesOf net) (nodesOf net) p ≡ c → lost c ≡ false → EndsAtRoot net p
       keeps p (Root r) e _ = record { root = r; leads = found-exactly up (nodesOf net) p r .0 e }

@@ -1,7 +1,7 @@
 // The tree of parents: checks 6 and 7 of a plan, and the root that a node's parents lead to.
-use links::at_most;
 use links::has_link;
 use network::Network;
+use network::at_most;
 ghost use mathlib.Core.Path.{_≡_};
 ghost use Prim.Native.Nat.{_≤_, min};
 ghost use Rattle.laws.specs.Below.{firstOf};

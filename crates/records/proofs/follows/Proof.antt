@@ -10,4 +10,4 @@ pub follows-spec : {M : Type 1} → statement M
 unfolding followsOf
 follows-spec =
     tie.close
-    (tie.spec (λ c. search (needs, picks)) (λ c. search needs) (λ c. search needs) (λ c. search needs) (λ c κs. search needs) (λ c. rw (c .rises .ensures) (search (needs, picks))))
+    (tie.spec (λ c. search (needs, picks)) (λ c. search needs) (λ c. search needs) (λ c. search needs) (λ c κs. search needs) (λ c. rw (c .pair-rises .ensures) (search (needs, picks))))

@@ -1,0 +1,236 @@
+-- Any two results that a public function's contract allows are equal, and so are the contents of a lent buffer. The statements are over each
+-- contract as the checker generates it (`Post` of the function's `Reads`), so that a loosened contract breaks its line here.
+-- Assumes nothing.
+use Prim.Native.Nat.{ℕ}
+use mathlib.Core.Path.{_≡_, sym, _∙_}
+use mathlib.Core.List.{List}
+use contract.Lifetimes.{Lfts}
+use denote.Ref.{now}
+use denote.Triple.Clauses.{AtExit}
+use borrow.Fn.Kinds.{PK, RK, Out, Dens, resT, endedOf}
+use Rattle.nodeset.proofs.NodeSet.contains.Kinds as nodeset-contains-kinds
+use Rattle.nodeset.proofs.NodeSet.contains.Reads as nodeset-contains-reads
+use Rattle.nodeset.proofs.NodeSet.insert.Kinds as nodeset-insert-kinds
+use Rattle.nodeset.proofs.NodeSet.insert.Reads as nodeset-insert-reads
+use Rattle.nodeset.proofs.NodeSet.remove.Kinds as nodeset-remove-kinds
+use Rattle.nodeset.proofs.NodeSet.remove.Reads as nodeset-remove-reads
+use Rattle.nodeset.proofs.NodeSet.size.Kinds as nodeset-size-kinds
+use Rattle.nodeset.proofs.NodeSet.size.Reads as nodeset-size-reads
+use Rattle.nodeset.proofs.NodeSet.lowest.Kinds as nodeset-lowest-kinds
+use Rattle.nodeset.proofs.NodeSet.lowest.Reads as nodeset-lowest-reads
+use Rattle.nodeset.proofs.NodeSet.without_lowest.Kinds as nodeset-without-lowest-kinds
+use Rattle.nodeset.proofs.NodeSet.without_lowest.Reads as nodeset-without-lowest-reads
+use Rattle.network.proofs.Network.with_sets.Kinds as network-with-sets-kinds
+use Rattle.network.proofs.Network.with_sets.Reads as network-with-sets-reads
+use Rattle.network.proofs.Network.valid.Kinds as network-valid-kinds
+use Rattle.network.proofs.Network.valid.Reads as network-valid-reads
+use Rattle.network.proofs.at_most.Kinds as network-at-most-kinds
+use Rattle.network.proofs.at_most.Reads as network-at-most-reads
+use Rattle.network.proofs.pair_rises.Kinds as network-pair-rises-kinds
+use Rattle.network.proofs.pair_rises.Reads as network-pair-rises-reads
+use Rattle.records.proofs.Cursor.read.Kinds as records-read-kinds
+use Rattle.records.proofs.Cursor.read.Reads as records-read-reads
+use Rattle.records.proofs.zeros.Kinds as records-zeros-kinds
+use Rattle.records.proofs.zeros.Reads as records-zeros-reads
+use Rattle.records.proofs.answer.Kinds as records-answer-kinds
+use Rattle.records.proofs.answer.Reads as records-answer-reads
+use Rattle.records.proofs.read_lists.Kinds as records-read-lists-kinds
+use Rattle.records.proofs.read_lists.Reads as records-read-lists-reads
+use Rattle.links.proofs.joins.Kinds as links-joins-kinds
+use Rattle.links.proofs.joins.Reads as links-joins-reads
+use Rattle.links.proofs.has_link.Kinds as links-has-link-kinds
+use Rattle.links.proofs.has_link.Reads as links-has-link-reads
+use Rattle.tree.proofs.root_in.Kinds as tree-root-in-kinds
+use Rattle.tree.proofs.root_in.Reads as tree-root-in-reads
+use Rattle.tree.proofs.root_number.Kinds as tree-root-number-kinds
+use Rattle.tree.proofs.root_number.Reads as tree-root-number-reads
+use Rattle.tree.proofs.first_lost.Kinds as tree-first-lost-kinds
+use Rattle.tree.proofs.first_lost.Reads as tree-first-lost-reads
+use Rattle.tree.proofs.first_untied.Kinds as tree-first-untied-kinds
+use Rattle.tree.proofs.first_untied.Reads as tree-first-untied-reads
+use Rattle.clusters.proofs.first_inside.Kinds as clusters-first-inside-kinds
+use Rattle.clusters.proofs.first_inside.Reads as clusters-first-inside-reads
+use Rattle.clusters.proofs.first_not_one.Kinds as clusters-first-not-one-kinds
+use Rattle.clusters.proofs.first_not_one.Reads as clusters-first-not-one-reads
+use Rattle.clusters.proofs.count.Kinds as clusters-count-kinds
+use Rattle.clusters.proofs.count.Reads as clusters-count-reads
+use Rattle.joined.proofs.first_unjoined.Kinds as joined-first-unjoined-kinds
+use Rattle.joined.proofs.first_unjoined.Reads as joined-first-unjoined-reads
+use Rattle.plan.proofs.read_plan.Kinds as plan-read-plan-kinds
+use Rattle.plan.proofs.read_plan.Reads as plan-read-plan-reads
+use Rattle.lockstep.proofs.mean.Kinds as lockstep-mean-kinds
+use Rattle.lockstep.proofs.mean.Reads as lockstep-mean-reads
+use Rattle.lockstep.proofs.table.Kinds as lockstep-table-kinds
+use Rattle.lockstep.proofs.table.Reads as lockstep-table-reads
+use Rattle.actions.proofs.number.Kinds as actions-number-kinds
+use Rattle.actions.proofs.number.Reads as actions-number-reads
+use Rattle.actions.proofs.index.Kinds as actions-index-kinds
+use Rattle.actions.proofs.index.Reads as actions-index-reads
+use Rattle.actions.proofs.cell.Kinds as actions-cell-kinds
+use Rattle.actions.proofs.cell.Reads as actions-cell-reads
+use Rattle.actions.proofs.place_of.Kinds as actions-place-of-kinds
+use Rattle.actions.proofs.place_of.Reads as actions-place-of-reads
+use Rattle.actions.proofs.own_of.Kinds as actions-own-of-kinds
+use Rattle.actions.proofs.own_of.Reads as actions-own-of-reads
+use Rattle.actions.proofs.knows.Kinds as actions-knows-kinds
+use Rattle.actions.proofs.knows.Reads as actions-knows-reads
+use Rattle.actions.proofs.may_go.Kinds as actions-may-go-kinds
+use Rattle.actions.proofs.may_go.Reads as actions-may-go-reads
+use Rattle.actions.proofs.need_of.Kinds as actions-need-of-kinds
+use Rattle.actions.proofs.need_of.Reads as actions-need-of-reads
+use Rattle.actions.proofs.every_of.Kinds as actions-every-of-kinds
+use Rattle.actions.proofs.every_of.Reads as actions-every-of-reads
+use Rattle.actions.proofs.does_of.Kinds as actions-does-of-kinds
+use Rattle.actions.proofs.does_of.Reads as actions-does-of-reads
+use Rattle.actions.proofs.read.Kinds as actions-read-kinds
+use Rattle.actions.proofs.read.Reads as actions-read-reads
+
+-- of the same arguments the contract allows one result
+abbrev pub OneResult : (n : ℕ) (ps : List (PK n)) (r : RK n) → Out n ps r → Type 0
+OneResult n ps r Post =
+    (κs : Lfts n) (a : Dens κs ps) (x y : resT r κs .Denot) (s t : AtExit (endedOf n ps r) κs) → Post κs a x s → Post κs a y t → x ≡ y
+
+-- .. and one content of what was lent
+abbrev pub OneEnd : (n : ℕ) (ps : List (PK n)) (r : RK n) → Out n ps r → {C : Type 0} → ((κs : Lfts n) → AtExit (endedOf n ps r) κs → C) → Type 0
+OneEnd n ps r Post content =
+    (κs : Lfts n) (a : Dens κs ps) (x y : resT r κs .Denot) (s t : AtExit (endedOf n ps r) κs)
+    → Post κs a x s
+    → Post κs a y t
+    → (x ≡ y) × (content κs s ≡ content κs t)
+
+same : {A : Type 0} {x y z : A} → x ≡ z → y ≡ z → x ≡ y
+same p q = p ∙ sym q
+
+-- ---- nodeset
+
+pub nodeset-contains-one : OneResult _ nodeset-contains-kinds.ps nodeset-contains-kinds.r nodeset-contains-reads.Post
+nodeset-contains-one κs a x y s t p q = same p q
+
+pub nodeset-insert-one : OneResult _ nodeset-insert-kinds.ps nodeset-insert-kinds.r nodeset-insert-reads.Post
+nodeset-insert-one κs a x y s t p q = λ i. record { marks = same p q i }
+
+pub nodeset-remove-one : OneResult _ nodeset-remove-kinds.ps nodeset-remove-kinds.r nodeset-remove-reads.Post
+nodeset-remove-one κs a x y s t p q = λ i. record { marks = same p q i }
+
+pub nodeset-size-one : OneResult _ nodeset-size-kinds.ps nodeset-size-kinds.r nodeset-size-reads.Post
+nodeset-size-one κs a x y s t p q = same p q
+
+pub nodeset-lowest-one : OneResult _ nodeset-lowest-kinds.ps nodeset-lowest-kinds.r nodeset-lowest-reads.Post
+nodeset-lowest-one κs a x y s t p q = same p q
+
+pub nodeset-without-lowest-one : OneResult _ nodeset-without-lowest-kinds.ps nodeset-without-lowest-kinds.r nodeset-without-lowest-reads.Post
+nodeset-without-lowest-one κs a x y s t p q = λ i. record { marks = same p q i }
+
+-- ---- network
+
+pub network-with-sets-one : OneResult _ network-with-sets-kinds.ps network-with-sets-kinds.r network-with-sets-reads.Post
+network-with-sets-one κs a x y s t p q = same p q
+
+pub network-valid-one : OneResult _ network-valid-kinds.ps network-valid-kinds.r network-valid-reads.Post
+network-valid-one κs a x y s t p q = same p q
+
+pub network-at-most-one : OneResult _ network-at-most-kinds.ps network-at-most-kinds.r network-at-most-reads.Post
+network-at-most-one κs a x y s t p q = same p q
+
+pub network-pair-rises-one : OneResult _ network-pair-rises-kinds.ps network-pair-rises-kinds.r network-pair-rises-reads.Post
+network-pair-rises-one κs a x y s t p q = same p q
+
+-- ---- records
+
+pub records-read-one : OneResult _ records-read-kinds.ps records-read-kinds.r records-read-reads.Post
+records-read-one κs a x y s t p q = same p q
+
+pub records-zeros-one : OneResult _ records-zeros-kinds.ps records-zeros-kinds.r records-zeros-reads.Post
+records-zeros-one κs a x y s t p q = same p q
+
+pub records-answer-one : OneResult _ records-answer-kinds.ps records-answer-kinds.r records-answer-reads.Post
+records-answer-one κs a x y s t p q = same p q
+
+pub records-read-lists-one : OneResult _ records-read-lists-kinds.ps records-read-lists-kinds.r records-read-lists-reads.Post
+records-read-lists-one κs a x y s t p q = same p q
+
+-- ---- links
+
+pub links-joins-one : OneResult _ links-joins-kinds.ps links-joins-kinds.r links-joins-reads.Post
+links-joins-one κs a x y s t p q = same p q
+
+pub links-has-link-one : OneResult _ links-has-link-kinds.ps links-has-link-kinds.r links-has-link-reads.Post
+links-has-link-one κs a x y s t p q = same p q
+
+-- ---- tree
+
+pub tree-root-in-one : OneResult _ tree-root-in-kinds.ps tree-root-in-kinds.r tree-root-in-reads.Post
+tree-root-in-one κs a x y s t p q = same p q
+
+pub tree-root-number-one : OneResult _ tree-root-number-kinds.ps tree-root-number-kinds.r tree-root-number-reads.Post
+tree-root-number-one κs a x y s t p q = same p q
+
+pub tree-first-lost-one : OneResult _ tree-first-lost-kinds.ps tree-first-lost-kinds.r tree-first-lost-reads.Post
+tree-first-lost-one κs a x y s t p q = same p q
+
+pub tree-first-untied-one : OneResult _ tree-first-untied-kinds.ps tree-first-untied-kinds.r tree-first-untied-reads.Post
+tree-first-untied-one κs a x y s t p q = same p q
+
+-- ---- clusters
+
+pub clusters-first-inside-one : OneResult _ clusters-first-inside-kinds.ps clusters-first-inside-kinds.r clusters-first-inside-reads.Post
+clusters-first-inside-one κs a x y s t p q = same p q
+
+pub clusters-first-not-one-one : OneResult _ clusters-first-not-one-kinds.ps clusters-first-not-one-kinds.r clusters-first-not-one-reads.Post
+clusters-first-not-one-one κs a x y s t p q = same p q
+
+pub clusters-count-one : OneResult _ clusters-count-kinds.ps clusters-count-kinds.r clusters-count-reads.Post
+clusters-count-one κs a x y s t p q = same p q
+
+-- ---- joined
+
+pub joined-first-unjoined-one : OneResult _ joined-first-unjoined-kinds.ps joined-first-unjoined-kinds.r joined-first-unjoined-reads.Post
+joined-first-unjoined-one κs a x y s t p q = same p q
+
+-- ---- plan
+
+pub plan-read-plan-one : OneResult _ plan-read-plan-kinds.ps plan-read-plan-kinds.r plan-read-plan-reads.Post
+plan-read-plan-one κs a x y s t p q = same p q
+
+-- ---- lockstep
+
+pub lockstep-mean-one : OneResult _ lockstep-mean-kinds.ps lockstep-mean-kinds.r lockstep-mean-reads.Post
+lockstep-mean-one κs a x y s t p q = same p q
+
+pub lockstep-table-one : OneEnd _ lockstep-table-kinds.ps lockstep-table-kinds.r lockstep-table-reads.Post (λ κs s. now (s .1 .1 .0))
+lockstep-table-one κs a x y s t p q = (same (p .0) (q .0), same (p .1) (q .1))
+
+-- ---- actions
+
+pub actions-number-one : OneResult _ actions-number-kinds.ps actions-number-kinds.r actions-number-reads.Post
+actions-number-one κs a x y s t p q = same p q
+
+pub actions-index-one : OneResult _ actions-index-kinds.ps actions-index-kinds.r actions-index-reads.Post
+actions-index-one κs a x y s t p q = same (p .0) (q .0)
+
+pub actions-cell-one : OneResult _ actions-cell-kinds.ps actions-cell-kinds.r actions-cell-reads.Post
+actions-cell-one κs a x y s t p q = same (p .0) (q .0)
+
+pub actions-place-of-one : OneResult _ actions-place-of-kinds.ps actions-place-of-kinds.r actions-place-of-reads.Post
+actions-place-of-one κs a x y s t p q = same p q
+
+pub actions-own-of-one : OneResult _ actions-own-of-kinds.ps actions-own-of-kinds.r actions-own-of-reads.Post
+actions-own-of-one κs a x y s t p q = same p q
+
+pub actions-knows-one : OneResult _ actions-knows-kinds.ps actions-knows-kinds.r actions-knows-reads.Post
+actions-knows-one κs a x y s t p q = same p q
+
+pub actions-may-go-one : OneResult _ actions-may-go-kinds.ps actions-may-go-kinds.r actions-may-go-reads.Post
+actions-may-go-one κs a x y s t p q = same p q
+
+pub actions-need-of-one : OneResult _ actions-need-of-kinds.ps actions-need-of-kinds.r actions-need-of-reads.Post
+actions-need-of-one κs a x y s t p q = same p q
+
+pub actions-every-of-one : OneResult _ actions-every-of-kinds.ps actions-every-of-kinds.r actions-every-of-reads.Post
+actions-every-of-one κs a x y s t p q = same p q
+
+pub actions-does-of-one : OneResult _ actions-does-of-kinds.ps actions-does-of-kinds.r actions-does-of-reads.Post
+actions-does-of-one κs a x y s t p q = same p q
+
+pub actions-read-one : OneResult _ actions-read-kinds.ps actions-read-kinds.r actions-read-reads.Post
+actions-read-one κs a x y s t p q = same p q

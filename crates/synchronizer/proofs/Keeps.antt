@@ -1,0 +1,281 @@
+-- A taken action keeps the state within the ranges of answer 17 and its arrays as long as they were; a refused one hands the state back. So a
+-- state that is in range stays so through methods, single actions and lists, from a start state on. The counts are kept since the count that
+-- rises is in use and below one that is at most rounds; the queues by `Waiting.antt`; a slot and a value that are set are in use.
+-- Assumes nothing.
+use Prim.Native.Nat.{ℕ, zero, suc, _+_, _*_, _/_, _%_, _<_, _≤_}
+use native.Mathlib.Omega.{arith}
+use native.Mathlib.Decide.{decLt}
+use mathlib.Core.Path.{_≡_, refl, sym, _∙_, ap, subst}
+use mathlib.Core.Bool.{Bool, true, false}
+use mathlib.Core.List.{List}
+use lib.Dec.{eqb}
+use lib.ListN.{length, getD, set, replicate, length-set, length-replicate, List·getD-eq-default}
+use borrow.Author.Tests.{eqb-true}
+use Rattle.laws.specs.Choice.{ifB, both}
+use Rattle.laws.specs.Below.{allBelow}
+use Rattle.laws.proofs.Choice.{ifB-yes, b-elim, lt-elim, eq-elim, both-left, true-not-false}
+use Rattle.network.specs.declared.Network.{Network}
+use Rattle.network.specs.Valid.{validNetwork}
+use Rattle.network.proofs.Valid.{valid-limits, valid-rest}
+use Rattle.actions.specs.declared.Kind.{Kind}
+use Rattle.actions.specs.declared.Does.{Does}
+use Rattle.actions.specs.declared.Record.{Record}
+use Rattle.actions.specs.Kinds.{kinds, indexOf, kindAt, count, cellOf}
+use Rattle.actions.specs.Table.{placeOf, needOf, doesOf}
+use Rattle.actions.specs.Records.{namesOf, bodyOf, readAt}
+use Rattle.actions.proofs.Numbers.{every-kind, number-at}
+use Rattle.actions.proofs.Cells.{same-cell}
+use Rattle.synchronizer.specs.declared.State.{State}
+use Rattle.synchronizer.specs.declared.Done.{Done}
+use Rattle.synchronizer.specs.declared.Acted.{Acted}
+use Rattle.synchronizer.specs.declared.Ran.{Ran}
+use Rattle.synchronizer.specs.Wires.{Wires, wiresOf, laneIn, aroundOf}
+use Rattle.synchronizer.specs.Answer.{countIn, packet, ack, startsRound, ownIn, answerOf}
+use Rattle.synchronizer.specs.After.{Queues, queues, pushed, popped, slotAt, meanHeard, effectIn, counted, afterIn, afterOf}
+use Rattle.synchronizer.specs.Start.{freshWith, startOf}
+use Rattle.synchronizer.specs.Entry.{done, inRange, doneIn, doneOf, actedAs, recordIn, actIn, actOf, listFrom, listOf}
+use Rattle.synchronizer.specs.Valid.{usedBy, entryFits, pastFits, validState, Sized}
+use Rattle.synchronizer.proofs.Entries.{set-keeps-at, repeated-at}
+use Rattle.synchronizer.proofs.States.{a-packet, an-ack, entry-of, entry-most, message-of, past-of, QueuesPass, Passes, valid-passes, passes-valid, used-at-most-256}
+use Rattle.synchronizer.proofs.Waiting.{QueuesLong, pushed-keeps, popped-keeps}
+use Rattle.synchronizer.proofs.Taken.{Taken, answer-0-taken, count-may-rise, taken-lane, taken-own}
+
+-- what is kept: the state is in range, and its arrays are as long as the struct says
+abbrev pub Sound : Network → State → Type 0
+Sound net s = (validState net s ≡ true) × Sized s
+
+-- the same, entry by entry
+abbrev Kept : Network → State → Type 0
+Kept net s = Passes net s × Sized s
+
+-- ---- counts
+
+-- no count is above rounds, whatever the cell
+every-count : (net : Network) (s : State) → Kept net s → (c : ℕ) → getD (s .counts) c 0 ≤ net .rounds
+unfolding indexOf cellOf
+every-count net s kept c = at (decLt c (length kinds * 256))
+  where
+    k : Kind
+    k = kindAt (c / 256)
+
+    at : Dec (c < length kinds * 256) → getD (s .counts) c 0 ≤ net .rounds
+    at (yes h) =
+        let cell : indexOf k * 256 + c % 256 ≡ c = omega (arith, number-at (c / 256) (omega arith)) in
+        subst (λ x. getD (s .counts) x 0 ≤ net .rounds) cell (entry-most (net .rounds) (usedBy (net .nodes) (net .links) k) (c % 256) (kept .0 .counted k (c % 256) (omega arith)))
+    at (no h) = omega (arith, List·getD-eq-default (s .counts) 0 {n = c} (omega (arith, kept .1 .counts)))
+
+module _ (net : Network) (v : validNetwork net ≡ true) where
+  -- a count in use that rises to at most rounds
+  counts-keep : (s : State) → Kept net s → (k : Kind) (x i : ℕ) → x < usedBy (net .nodes) (net .links) k → i ≤ net .rounds → Kept net (counted (wiresOf net) s (count k x) i)
+  unfolding counted
+  counts-keep s kept k x i used most = (
+    record {
+      counted = λ j y h. set-keeps-at P (s .counts) (cellOf (count k x)) i 0 new old (cellOf (count j y)) j y h refl;
+      queued = kept .0 .queued;
+      slot = kept .0 .slot;
+      value = kept .0 .value;
+    },
+    record {
+      counts = length-set (s .counts) (cellOf (count k x)) i ∙ kept .1 .counts;
+      lens = kept .1 .lens;
+      sorts = kept .1 .sorts;
+      loads = kept .1 .loads;
+      slots = kept .1 .slots;
+      values = kept .1 .values;
+    },
+  )
+    where
+      P : ℕ → ℕ → Type 0
+      P c n = (j : Kind) (y : ℕ) → y < 256 → cellOf (count j y) ≡ c → entryFits (net .rounds) (usedBy (net .nodes) (net .links) j) y n ≡ true
+
+      -- the cell that is set is that of no other count
+      new : P (cellOf (count k x)) i
+      new j y h e =
+          let (same-kind, same-place) = same-cell j k y x h (omega (arith, used-at-most-256 net v k)) e in
+          entry-of (λ _. most) (λ past. absurd (omega (arith, ap (usedBy (net .nodes) (net .links)) same-kind)))
+
+      old : (c : ℕ) → P c (getD (s .counts) c 0)
+      old c j y h e =
+          subst (λ z. entryFits (net .rounds) (usedBy (net .nodes) (net .links) j) y (getD (s .counts) z 0) ≡ true) e (kept .0 .counted j y h)
+
+-- ---- what an action does besides
+
+-- the actions that move a message
+onQueue : Does → Bool
+onQueue Does.Starts = false
+onQueue Does.Counts = false
+onQueue Does.SendsPacket = true
+onQueue Does.SendsAck = true
+onQueue Does.TakesPacket = true
+onQueue Does.TakesAck = true
+onQueue Does.Means = false
+
+-- they name a link
+queue-names-two : (k : Kind) → onQueue (doesOf k) ≡ true → bodyOf k ≡ 2
+unfolding onQueue doesOf bodyOf namesOf placeOf kindAt allBelow both ifB
+queue-names-two k q =
+    eqb-true (bodyOf k) 2 (sym (ifB-yes (onQueue (doesOf k)) (eqb (bodyOf k) 2) true q) ∙ every-kind (λ j. ifB (onQueue (doesOf j)) (eqb (bodyOf j) 2) true) refl k)
+
+module _ (net : Network) (v : validNetwork net ≡ true) (w : Wires) where
+  -- other queues, slots and values beside the same counts
+  kept-with : (s : State) → Kept net s → (u : Queues) (slots values : List ℕ) → QueuesPass (net .links) u × QueuesLong u
+      → ((x : ℕ) → x < 512 → pastFits (net .links * 4) x (getD slots x 0) ≡ true) → length slots ≡ 512
+      → ((p : ℕ) → p < 64 → pastFits (net .nodes) p (getD values p 0) ≡ true) → length values ≡ 64
+      → Kept net (record { counts = s .counts; lens = u .lens; sorts = u .sorts; loads = u .loads; slots = slots; values = values })
+  kept-with s kept u slots values q a b c d = (
+    record { counted = kept .0 .counted; queued = q .0; slot = a; value = c },
+    record { counts = kept .1 .counts; lens = q .1 .lens; sorts = q .1 .sorts; loads = q .1 .loads; slots = b; values = d },
+  )
+
+  effect-keeps : (does : Does) (p d i : ℕ) (s : State) → Kept net s → p < net .nodes → (onQueue does ≡ true → d < net .links * 2) → Kept net (effectIn w does p d i s)
+  unfolding effectIn onQueue
+  effect-keeps does p d i s kept hp hd = at does hd
+    where
+      u : Queues
+      u = queues (s .lens) (s .sorts) (s .loads)
+
+      long : QueuesLong u
+      long = record { lens = kept .1 .lens; sorts = kept .1 .sorts; loads = kept .1 .loads }
+
+      at : (does : Does) → (onQueue does ≡ true → d < net .links * 2) → Kept net (effectIn w does p d i s)
+      at Does.Starts hd = kept
+      at Does.Counts hd = kept
+      at Does.SendsPacket hd =
+          kept-with s kept (pushed u d packet (getD (s .values) p 0)) (s .slots) (s .values) (pushed-keeps (net .links) u (kept .0 .queued) long d packet (getD (s .values) p 0) (valid-limits net v .at-most-128-links) (hd refl) (a-packet refl)) (kept .0 .slot) (kept .1 .slots) (kept .0 .value) (kept .1 .values)
+      at Does.SendsAck hd =
+          kept-with s kept (pushed u d ack 0) (s .slots) (s .values) (pushed-keeps (net .links) u (kept .0 .queued) long d ack 0 (valid-limits net v .at-most-128-links) (hd refl) (an-ack refl refl)) (kept .0 .slot) (kept .1 .slots) (kept .0 .value) (kept .1 .values)
+      at Does.TakesPacket hd =
+          kept-with s kept (popped u d) (set (s .slots) (slotAt d i) (getD (s .loads) (d * 2) 0)) (s .values) (popped-keeps (net .links) u (kept .0 .queued) long d) (set-keeps-at (λ x n. x < 512 → pastFits (net .links * 4) x n ≡ true) (s .slots) (slotAt d i) (getD (s .loads) (d * 2) 0) 0 (λ _. past-of (λ past. absurd (omega (arith, hd refl)))) (kept .0 .slot)) (length-set (s .slots) (slotAt d i) (getD (s .loads) (d * 2) 0) ∙ kept .1 .slots) (kept .0 .value) (kept .1 .values)
+      at Does.TakesAck hd =
+          kept-with s kept (popped u d) (s .slots) (s .values) (popped-keeps (net .links) u (kept .0 .queued) long d) (kept .0 .slot) (kept .1 .slots) (kept .0 .value) (kept .1 .values)
+      at Does.Means hd =
+          let mean : ℕ = meanHeard (w .lanes) (s .slots) (getD (w .neighbours) p 0) p (getD (s .values) p 0) i in
+          kept-with s kept u (s .slots) (set (s .values) p mean) (kept .0 .queued, long) (kept .0 .slot) (kept .1 .slots) (set-keeps-at (λ x n. x < 64 → pastFits (net .nodes) x n ≡ true) (s .values) p mean 0 (λ _. past-of (λ past. absurd (omega arith))) (kept .0 .value)) (length-set (s .values) p mean ∙ kept .1 .values)
+
+-- ---- an action, one from bytes, a list
+
+module _ (net : Network) (v : validNetwork net ≡ true) where
+  pub taken-keeps : (s : State) (k : Kind) (p q : ℕ) → validState net s ≡ true → Sized s → answerOf net s k p q ≡ 0 → (validState net (afterOf net s k p q) ≡ true) × Sized (afterOf net s k p q)
+  unfolding afterIn wiresOf
+  taken-keeps s k p q valid sized e = (passes-valid net (afterOf net s k p q) (after .0), after .1)
+    where
+      w : Wires
+      w = wiresOf net
+
+      i : ℕ
+      i = countIn (s .counts) (ownIn w k p q) + 1
+
+      kept : Kept net s
+      kept = (valid-passes net s valid, sized)
+
+      t : Taken w s k p q
+      t = answer-0-taken w s k p q e
+
+      in-rounds : i ≤ net .rounds
+      in-rounds =
+          omega (arith, count-may-rise (startsRound (doesOf k)) (net .rounds) (countIn (s .counts) (ownIn w k p q)) (countIn (s .counts) (needOf k p (aroundOf w p q))) (t .counts) (every-count net s kept (cellOf (needOf k p (aroundOf w p q)))))
+
+      risen : Kept net (counted w s (ownIn w k p q) i)
+      risen =
+          let (x, own, used) = taken-own net v s k p q t in
+          subst (λ c. Kept net (counted w s c i)) (sym own) (counts-keep net v s kept k x i used in-rounds)
+
+      after : Kept net (afterOf net s k p q)
+      after =
+          effect-keeps net v w (doesOf k) p (laneIn (w .lanes) p q) i (counted w s (ownIn w k p q) i) risen (t .p-below) (λ moves. taken-lane net v s k p q t (queue-names-two k moves))
+
+  -- an action on a network and a state that are in range, taken or refused
+  pub done-in-keeps : (s : State) (k : Kind) (p q : ℕ) → Sound net s → Sound net (doneIn (wiresOf net) s k p q .state)
+  unfolding doneIn
+  done-in-keeps s k p q h =
+      eq-elim (λ r. Sound net (r .state)) (answerOf net s k p q) 0 (done 0 (afterOf net s k p q)) (done (answerOf net s k p q) s) (λ e. taken-keeps s k p q (h .0) (h .1) e) (λ _. h)
+
+  pub act-in-keeps : (s : State) (bytes : List ℕ) (at : ℕ) → Sound net s → Sound net (actIn (wiresOf net) s bytes at .state)
+  unfolding actIn recordIn actedAs
+  act-in-keeps s bytes at h = by (readAt bytes at)
+    where
+      by : (r : Record) → Sound net (recordIn (wiresOf net) s r .state)
+      by Record.Unknown = h
+      by Record.Short = h
+      by (Record.Act k p q width) =
+          eq-elim {A = Acted} (λ r. Sound net (r .state)) (doneIn (wiresOf net) s k p q .answer) 0 _ _ (λ _. done-in-keeps s k p q h) (λ _. done-in-keeps s k p q h)
+
+  pub list-from-keeps : (turns : ℕ) (s : State) (bytes : List ℕ) (at taken : ℕ) → Sound net s → Sound net (listFrom turns (wiresOf net) s bytes at taken .state)
+  unfolding listFrom
+  list-from-keeps zero s bytes at taken h = h
+  list-from-keeps (suc turns) s bytes at taken h =
+      lt-elim {A = Ran} (λ r. Sound net (r .state)) at (length bytes) _ _
+      (λ _. eq-elim {A = Ran} (λ r. Sound net (r .state)) (actIn (wiresOf net) s bytes at .answer) 0 _ _ (λ _. list-from-keeps turns (actIn (wiresOf net) s bytes at .state) bytes (at + actIn (wiresOf net) s bytes at .place) (taken + 1) (act-in-keeps s bytes at h)) (λ _. h))
+      (λ _. h)
+
+-- the methods, single actions from bytes, and lists: 17 hands the state back as it came
+module _ (net : Network) (s : State) (h : Sound net s) where
+  valid-there : inRange net s ≡ true → validNetwork net ≡ true
+  unfolding inRange
+  valid-there = both-left (validNetwork net) (validState net s)
+
+  pub doneOf-keeps : (k : Kind) (p q : ℕ) → Sound net (doneOf net s k p q .state)
+  unfolding doneOf
+  doneOf-keeps k p q =
+      b-elim {A = Done} (λ r. Sound net (r .state)) (inRange net s) _ _ (λ v. done-in-keeps net (valid-there v) s k p q h) (λ _. h)
+
+  pub act-keeps : (bytes : List ℕ) → Sound net (actOf net s bytes .state)
+  unfolding actOf
+  act-keeps bytes =
+      b-elim {A = Acted} (λ r. Sound net (r .state)) (inRange net s) _ _ (λ v. act-in-keeps net (valid-there v) s bytes 0 h) (λ _. h)
+
+  pub list-keeps : (bytes : List ℕ) → Sound net (listOf net s bytes .state)
+  unfolding listOf
+  list-keeps bytes =
+      b-elim {A = Ran} (λ r. Sound net (r .state)) (inRange net s) _ _ (λ v. list-from-keeps net (valid-there v) (suc (length bytes)) s bytes 0 0 h) (λ _. h)
+
+-- ---- a refusal hands the state back
+
+pub done-refused : (net : Network) (s : State) (k : Kind) (p q : ℕ) → 0 < doneOf net s k p q .answer → doneOf net s k p q .state ≡ s
+unfolding doneOf doneIn
+done-refused net s k p q =
+    b-elim {A = Done} (λ r. 0 < r .answer → r .state ≡ s) (inRange net s) _ _ (λ _. eq-elim {A = Done} (λ r. 0 < r .answer → r .state ≡ s) (answerOf net s k p q) 0 _ _ (λ _ h. absurd (omega arith)) (λ _ _. refl))
+    (λ _ _. refl)
+
+-- ---- the start state
+
+fresh-sized : (values : List ℕ) → length values ≡ 64 → Sized (freshWith values)
+unfolding freshWith
+fresh-sized values e =
+    record {
+      counts = zeros (length kinds * 256);
+      lens = zeros 256;
+      sorts = zeros 512;
+      loads = zeros 512;
+      slots = zeros 512;
+      values = e;
+    }
+  where
+    zeros : (n : ℕ) → length {A = ℕ} (replicate n 0) ≡ n
+    zeros n = length-replicate n 0
+
+module _ (net : Network) (long : length (net .starts) ≡ 64) where
+  pub start-sized : Sized (startOf net .state)
+  unfolding startOf
+  start-sized =
+      b-elim {A = Done} (λ r. Sized (r .state)) (validNetwork net) _ _ (λ _. fresh-sized (net .starts) long) (λ _. fresh-sized (replicate 64 0) (length-replicate {A = ℕ} 64 0))
+
+  pub start-valid : validNetwork net ≡ true → Sound net (startOf net .state)
+  unfolding startOf freshWith
+  start-valid v =
+      b-elim {A = Done} (λ r. Sound net (r .state)) (validNetwork net) _ _ (λ _. (passes-valid net (freshWith (net .starts)) fresh, fresh-sized (net .starts) long)) (λ o. absurd (true-not-false (validNetwork net) v o))
+    where
+      none : (n x : ℕ) → getD {A = ℕ} (replicate n 0) x 0 ≡ 0
+      none n x = repeated-at n 0 x
+
+      fresh : Passes net (freshWith (net .starts))
+      fresh =
+          record {
+            counted = λ k x h. entry-of (λ _. omega (arith, none (length kinds * 256) (cellOf (count k x)))) (λ _. none (length kinds * 256) (cellOf (count k x)));
+            queued = record {
+              at-most-two = λ d h. entry-of (λ _. omega (arith, none 256 d)) (λ _. none 256 d);
+              message = λ d j h l. message-of (λ waits. absurd (omega (arith, none 256 d))) (λ _. (none 512 (d * 2 + j), none 512 (d * 2 + j)));
+            };
+            slot = λ x h. past-of (λ _. none 512 x);
+            value = λ p h. past-of (λ past. valid-rest net v .no-start p past h);
+          }
