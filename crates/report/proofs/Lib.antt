@@ -1,3 +1,4 @@
+pub mod Example
 pub mod Places
 pub mod Plans
 pub mod Short
