@@ -48,7 +48,7 @@ more-digits (suc n) h =
 
 -- ---- what they are
 
-value-more : (v : ℕ) (ds : List ℕ) (d : ℕ) → valueFrom v (ds ++ glyph d ∷ []) ≡ valueFrom v ds * 10 + d
+pub value-more : (v : ℕ) (ds : List ℕ) (d : ℕ) → valueFrom v (ds ++ glyph d ∷ []) ≡ valueFrom v ds * 10 + d
 unfolding valueFrom glyph
 value-more v [] d = omega arith
 value-more v (e ∷ ds) d = value-more (v * 10 + (e - 48)) ds d

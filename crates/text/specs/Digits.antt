@@ -1,4 +1,5 @@
--- What a row of decimal digits is, said without how it is made. `proofs/Decimal.antt` shows that `decimal` gives one for every number.
+-- What a row of decimal digits is, said without how it is made. `decimal` gives one for every number
+-- (`proofs/Decimal.antt`), and there is no other (`proofs/Digits.antt`).
 -- Assumes nothing.
 use Prim.Native.Nat.{ℕ, _+_, _-_, _*_, _<_, _≤_}
 use mathlib.Core.Path.{_≡_}
