@@ -1,42 +1,41 @@
 -- The code's answer is the automaton's. Each asks the same questions in document 01's order, 13, 14, 15, 16, 18; each question has the same answer
 -- in the arrays and in their reading; and how the answers are put together is the same for every outcome of the tests.
 -- Assumes nothing.
-use Prim.Native.Nat.{ℕ, suc, _+_, _*_, _<_, _≤_}
+use Prim.Native.Nat.{ℕ, suc, _+_, _*_, _<_}
 use native.Mathlib.Nat.{add-zero}
 use native.Mathlib.Omega.{arith}
-use mathlib.Core.Path.{_≡_, refl, sym, _∙_, ap, ap₂, subst}
-use mathlib.Core.Bool.{Bool, true, false, not, true≢false, false≢true}
-use mathlib.Core.List.{List, [], _∷_, _++_}
+use mathlib.Core.Path.{_≡_, refl, sym, _∙_, ap, ap₂}
+use mathlib.Core.Bool.{Bool, true, false, true≢false, false≢true}
+use mathlib.Core.List.{List, []}
 use mathlib.Core.Logic.{_⊎_, inl, inr}
-use lib.Dec.{ltb, leb, eqb}
+use lib.Dec.{ltb, leb}
 use lib.ListN.{length, getD}
 use borrow.Author.Tests.{lt-ltb, le-ltb, ltb-true, leb-true, leb-false}
 use Rattle.laws.specs.Choice.{ifB, ifLt, ifEq, both}
 use Rattle.laws.specs.Below.{allBelow}
-use Rattle.laws.proofs.Choice.{ifB-yes, ifB-no, lt-elim, both-left, both-right}
+use Rattle.laws.proofs.Choice.{ifB-yes, ifB-no}
 use Rattle.laws.proofs.Below.{length-list}
-use Rattle.nodeset.specs.Marks.{member}
 use Rattle.network.specs.declared.Network.{Network}
 use Rattle.network.specs.Valid.{validNetwork}
 use Rattle.actions.specs.declared.Kind.{Kind}
 use Rattle.actions.specs.declared.Place as Kinds
 use Rattle.actions.specs.declared.Does.{Does}
-use Rattle.actions.specs.Table.{placeOf, needOf, everyOf, doesOf}
+use Rattle.actions.specs.Table.{placeOf, everyOf, doesOf}
 use Rattle.actions.specs.Kinds.{kindAt}
 use Rattle.actions.proofs.Numbers.{every-kind}
 use Rattle.synchronizer.specs.declared.State.{State}
 use Rattle.synchronizer.specs.Wires as Wires
-use Rattle.synchronizer.specs.Wires.{wiresOf, lanesOf, laneIn, aroundOf}
+use Rattle.synchronizer.specs.Wires.{wiresOf, lanesOf, laneIn}
 use Rattle.synchronizer.specs.Answer as Code
 use Rattle.synchronizer.specs.Answer.{countIn, standsIn, startsRound, countAnswer, everyHas, headOf, roomAnswer, queueAnswer, ownIn, legalAnswer, needAnswer, answerIn, answerOf}
 use Rattle.synchronizer.specs.After.{queues}
 use Rattle.synchronizer.specs.Valid.{StateClauses}
-use Rattle.automaton.specs.Actions.{Act, Place, aNode, aLink, aPreferredLink, aChild, aRoot, same, output, bodyOf}
+use Rattle.automaton.specs.Actions.{Act, Place, aNode, aLink, aPreferredLink, aChild, aRoot, bodyOf}
 use Rattle.automaton.specs.Network.{isRoot}
-use Rattle.automaton.specs.Needs.{Need, has, hadBefore, packetFirst, ackFirst, needsOf}
+use Rattle.automaton.specs.Needs.{packetFirst, ackFirst}
 use Rattle.automaton.specs.Global.{Global}
 use Rattle.automaton.specs.Lists.{every}
-use Rattle.automaton.specs.Answer.{sends, must, packetAtFront, ackAtFront, met, fits, known, legal, next, inTime, enabled, room, answer}
+use Rattle.automaton.specs.Answer.{must, packetAtFront, ackAtFront, met, fits, known, legal, next, inTime, enabled, room, answer}
 use Rattle.guarantees.specs.Reading.{joins, directionOf, netOf, kindOf, namesLink, seated, countOf, waitingIn, read}
 use Rattle.guarantees.proofs.Links.{neighbour-is, preferred-is, prefers-joins}
 use Rattle.guarantees.proofs.Directions.{direction-below, lane-is}

@@ -3,10 +3,9 @@
 -- Assumes nothing.
 use Prim.Native.Nat.{ℕ}
 use native.Mathlib.Omega.{arith}
-use mathlib.Core.Path.{_≡_, refl, sym, _∙_}
+use mathlib.Core.Path.{_≡_, refl}
 use mathlib.Core.Bool.{Bool, true, false}
 use lib.Dec.{ltb}
-use lib.ListN.{length, getD}
 use Rattle.laws.specs.Choice.{ifB}
 use Rattle.laws.proofs.Choice.{both-left}
 use Rattle.network.specs.declared.Network.{Network}
@@ -14,7 +13,7 @@ use Rattle.network.specs.Valid.{validNetwork}
 use Rattle.synchronizer.specs.declared.State.{State}
 use Rattle.synchronizer.specs.Answer.{answerOf}
 use Rattle.synchronizer.specs.After.{afterOf}
-use Rattle.synchronizer.specs.Valid.{validState, StateClauses, Sized}
+use Rattle.synchronizer.specs.Valid.{validState, Sized}
 use Rattle.synchronizer.proofs.States.{valid-state-clauses}
 use Rattle.automaton.specs.Actions.{Act, bodyOf}
 use Rattle.automaton.specs.Network.{Net}
@@ -22,12 +21,12 @@ use Rattle.automaton.specs.Global.{Global}
 use Rattle.automaton.specs.Answer.{must, known, room, answer}
 use Rattle.automaton.specs.Run.{after}
 use Rattle.automaton.proofs.Runs.{Allowed, answer-allowed}
-use Rattle.guarantees.specs.Reading.{netOf, kindOf, seated, read}
+use Rattle.guarantees.specs.Reading.{netOf, kindOf, read}
 use Rattle.guarantees.proofs.Tables.{doing}
 use Rattle.guarantees.proofs.Answers as Answers
 use Rattle.guarantees.proofs.Answers.{legal-seated}
 use Rattle.guarantees.proofs.Counting.{count-after}
-use Rattle.guarantees.proofs.Effects.{Holding, effect-holds}
+use Rattle.guarantees.proofs.Effects.{effect-holds}
 
 -- two states of the automaton with the same counts, queues, slots and values are one
 pub same-global : (g h : Global ℕ) → ((b : Act) → g .count b ≡ h .count b) → ((p q : ℕ) → g .queue p q ≡ h .queue p q) → ((p q i : ℕ) → g .slot p q i ≡ h .slot p q i) → ((p : ℕ) → g .value p ≡ h .value p) → g ≡ h

@@ -1,25 +1,24 @@
 -- A taken action counts: in the arrays its own count rises by one and no other changes, since no two actions share a place; and that is what the
 -- automaton says.
 -- Assumes nothing.
-use Prim.Native.Nat.{ℕ, suc, _+_, _*_, _<_}
+use Prim.Native.Nat.{ℕ, suc, _+_}
 use native.Mathlib.Numerals.{add-one}
 use native.Mathlib.Omega.{arith}
 use mathlib.Core.Path.{_≡_, refl, sym, _∙_, ap, subst}
 use mathlib.Core.Bool.{Bool, true, false}
-use mathlib.Core.List.{List}
-use lib.ListN.{length, getD, set}
+use lib.ListN.{getD, set}
 use lib.Seq.{getD-set-same, getD-set-other}
 use Rattle.laws.specs.Choice.{ifB}
-use Rattle.laws.proofs.Choice.{ifB-yes, true-not-false}
+use Rattle.laws.proofs.Choice.{true-not-false}
 use Rattle.network.specs.declared.Network.{Network}
 use Rattle.network.specs.Valid.{validNetwork}
 use Rattle.actions.specs.declared.Does.{Does}
-use Rattle.actions.specs.Kinds.{kinds, cellOf}
+use Rattle.actions.specs.Kinds.{cellOf}
 use Rattle.actions.specs.Table.{doesOf}
 use Rattle.actions.proofs.Cells.{cell-inside}
 use Rattle.synchronizer.specs.declared.State.{State}
 use Rattle.synchronizer.specs.Wires.{Wires, wiresOf, laneIn}
-use Rattle.synchronizer.specs.Answer.{countIn, ownIn}
+use Rattle.synchronizer.specs.Answer.{countIn}
 use Rattle.synchronizer.specs.After.{effectIn, counted, afterIn, afterOf}
 use Rattle.synchronizer.specs.Valid.{Sized}
 use Rattle.automaton.specs.Actions.{Act, same, bodyOf}

@@ -5,19 +5,19 @@ use Prim.Native.Nat.{ℕ, zero, suc, _+_, _*_, _/_, _%_, _<_, _≤_}
 use native.Mathlib.Nat.{not-suc-le-zero, le-refl}
 use native.Mathlib.Omega.{arith}
 use native.Mathlib.Decide.{decLt, ℕ-discrete}
-use mathlib.Core.Path.{_≡_, refl, sym, _∙_, ap, subst}
-use mathlib.Core.Bool.{Bool, true, false}
+use mathlib.Core.Path.{_≡_, refl, sym, _∙_, subst}
+use mathlib.Core.Bool.{true}
 use mathlib.Core.List.{List}
 use lib.ListN.{length, getD, set, replicate, length-set, length-replicate}
 use lib.Seq.{getD-set-same, getD-set-other}
 use Rattle.laws.specs.Choice.{ifLt}
 use Rattle.laws.specs.Below.{foldBelow}
 use Rattle.laws.proofs.Choice.{ifLt-yes, ifLt-no, lt-elim}
-use Rattle.laws.proofs.Below.{below-split, fold-keeps}
+use Rattle.laws.proofs.Below.{fold-keeps}
 use Rattle.network.specs.declared.Network.{Network}
 use Rattle.network.specs.Sets.{Ends, rising, falling}
 use Rattle.network.specs.Valid.{validNetwork}
-use Rattle.network.proofs.Valid.{valid-limits, valid-ranges, valid-order, one-link}
+use Rattle.network.proofs.Valid.{valid-limits, valid-ranges, valid-order}
 use Rattle.synchronizer.specs.Wires.{joined, lanesOf, laneIn}
 use Rattle.guarantees.specs.Reading.{linkOf, joins, directionOf}
 use Rattle.guarantees.proofs.Links.{joined-ends, joined-below, joins-of, nodes-below, link-is}

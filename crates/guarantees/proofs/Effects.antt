@@ -4,7 +4,7 @@
 use Prim.Native.Nat.{ℕ, _+_, _<_}
 use native.Mathlib.Omega.{arith}
 use mathlib.Core.Path.{_≡_, refl, sym, _∙_, ap, subst}
-use mathlib.Core.Bool.{Bool, true, false, false≢true}
+use mathlib.Core.Bool.{true, false, false≢true}
 use mathlib.Core.List.{List}
 use lib.Dec.{ltb}
 use lib.ListN.{length, getD}
@@ -24,16 +24,15 @@ use Rattle.synchronizer.specs.Valid.{StateClauses, Sized}
 use Rattle.automaton.specs.Actions.{Act, same, decided, packetSent, packetDelivered, ackSent, ackDelivered, input, bodyOf}
 use Rattle.automaton.specs.Needs.{needsOf}
 use Rattle.automaton.specs.Global.{Msg, Global}
-use Rattle.automaton.specs.Answer.{sends, packetAtFront, ackAtFront, met, room}
+use Rattle.automaton.specs.Answer.{sends, ackAtFront, met, room}
 use Rattle.automaton.specs.Run.{onQueue, onSlot, onValue, after}
 use Rattle.automaton.proofs.Effects.{same-eq, slot-untouched, value-untouched}
 use Rattle.automaton.proofs.Order.{enabled-met}
 use Rattle.automaton.proofs.Runs.{Allowed}
 use Rattle.guarantees.specs.Reading.{joins, directionOf, netOf, kindOf, namesLink, seated, waitingIn, read}
-use Rattle.guarantees.proofs.Directions.{direction-below}
 use Rattle.guarantees.proofs.Tables.{sendsOne, rowOf, quiet, Doing, packetJoins, packetLeaves, ackJoins, ackLeaves, means, nothing}
 use Rattle.guarantees.proofs.Waiting.{ack-waits}
-use Rattle.guarantees.proofs.Answers.{sorted, queue-read}
+use Rattle.guarantees.proofs.Answers.{queue-read}
 use Rattle.guarantees.proofs.Messages.{packet-joins, ack-joins, packet-leaves, ack-leaves}
 use Rattle.guarantees.proofs.Slots.{carries, slot-after}
 use Rattle.guarantees.proofs.Means.{value-after}

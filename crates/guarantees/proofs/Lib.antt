@@ -2,8 +2,12 @@ pub mod Answers
 pub mod Bridge
 pub mod Choices
 pub mod Counting
+pub mod Demand
+pub mod Demand1
+pub mod Demand3
 pub mod Directions
 pub mod Effects
+pub mod Exactly
 pub mod Links
 pub mod Means
 pub mod Members
@@ -12,11 +16,14 @@ pub mod Needs
 pub mod Only
 pub mod Outcomes
 pub mod Plans
+pub mod Reached
 pub mod Records
 pub mod Seats
 pub mod Slots
 pub mod Start
 pub mod Tables
+pub mod Trials
 pub mod Unique
 pub mod Waiting
 pub mod Whole
+pub mod Witnesses

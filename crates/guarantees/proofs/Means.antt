@@ -6,11 +6,10 @@ use native.Mathlib.Omega.{arith}
 use mathlib.Core.Path.{_≡_, refl, sym, _∙_, ap, subst}
 use mathlib.Core.Bool.{Bool, true, false}
 use mathlib.Core.List.{List, map}
-use lib.Dec.{ltb}
-use lib.ListN.{length, getD, set}
+use lib.ListN.{getD, set}
 use lib.Seq.{getD-set-same, getD-set-other}
 use borrow.Author.Tests.{lt-ltb}
-use Rattle.laws.specs.Choice.{ifB, ifLt}
+use Rattle.laws.specs.Choice.{ifB}
 use Rattle.laws.proofs.Choice.{ifB-yes, ifLt-yes, true-not-false}
 use Rattle.nodeset.specs.Marks.{member, valuesIn}
 use Rattle.nodeset.proofs.Members.{values-same}

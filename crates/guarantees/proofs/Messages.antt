@@ -1,11 +1,11 @@
 -- The queues after an action that sends or delivers, as arrays and as read. In the arrays one direction changes, at its end or at its head, and
 -- every ordered pair of joined nodes has a direction of its own; so one pair's queue changes, as in the automaton.
 -- Assumes nothing.
-use Prim.Native.Nat.{ℕ, _+_, _*_, _<_, _≤_}
+use Prim.Native.Nat.{ℕ, _<_, _≤_}
 use mathlib.Core.Path.{_≡_, refl, sym, _∙_, ap, ap₂, subst}
 use mathlib.Core.Bool.{Bool, true, false}
 use mathlib.Core.List.{List, [], _∷_, _++_, tail}
-use lib.ListN.{length, getD}
+use lib.ListN.{getD}
 use Rattle.laws.specs.Choice.{ifB, ifEq}
 use Rattle.laws.proofs.Choice.{ifB-yes, true-not-false}
 use Rattle.network.specs.declared.Network.{Network}

@@ -2,9 +2,9 @@
 -- (`need-read`), and that of every neighbour, child or preferred neighbour (`every-read`).
 -- Assumes nothing.
 use Prim.Native.Nat.{ℕ, suc, _<_}
-use mathlib.Core.Path.{_≡_, refl, sym, _∙_, ap, ap₂, subst}
+use mathlib.Core.Path.{_≡_, refl, sym, _∙_, ap, ap₂}
 use mathlib.Core.Bool.{Bool, true, false}
-use mathlib.Core.List.{List, [], _∷_, _++_, map}
+use mathlib.Core.List.{List, map}
 use lib.Dec.{ltb, leb}
 use lib.ListN.{getD}
 use borrow.Author.Tests.{lt-ltb, ltb-true}
@@ -19,7 +19,7 @@ use Rattle.actions.specs.declared.Kind.the-variants.{PacketSent, PacketDelivere
 use Rattle.actions.specs.declared.Counter.{Counter}
 use Rattle.actions.specs.declared.Every.{Every}
 use Rattle.actions.specs.Kinds.{count}
-use Rattle.actions.specs.Table.{placeOf, knowsBy, mayGoBy, needOf, everyOf}
+use Rattle.actions.specs.Table.{placeOf, knowsBy, mayGoBy, needOf}
 use Rattle.synchronizer.specs.declared.State.{State}
 use Rattle.synchronizer.specs.Wires as Wires
 use Rattle.synchronizer.specs.Wires.{wiresOf, lanesOf, laneIn, aroundOf}
@@ -31,11 +31,11 @@ use Rattle.automaton.specs.Network.{isRoot, neighbours, children, preferredNeig
 use Rattle.automaton.specs.Needs.{Need, has, know, may}
 use Rattle.automaton.specs.Lists.{every}
 use Rattle.automaton.specs.Answer.{met}
-use Rattle.guarantees.specs.Reading.{joins, directionOf, netOf, kindOf, namesLink, seated, seatOf, countOf, read}
+use Rattle.guarantees.specs.Reading.{joins, netOf, kindOf, namesLink, seated, seatOf, countOf, read}
 use Rattle.guarantees.proofs.Links.{joins-back, prefers-joins, nodes-below, neighbour-is, preferred-is, member-child, neighbours-are, children-are, preferred-neighbours-are}
 use Rattle.guarantees.proofs.Directions.{lane-is}
 use Rattle.guarantees.proofs.Seats.{counterOf, seat-of-link, seated-link, seat-of-node, seated-node}
-use Rattle.guarantees.proofs.Tables.{actionOf, placeAs, named, needed, everyNeeds, Fitting}
+use Rattle.guarantees.proofs.Tables.{actionOf, placeAs, needed, everyNeeds, Fitting}
 use Rattle.guarantees.proofs.Members.{every-append, all-members}
 
 module _ (net : Network) (v : validNetwork net ≡ true) where

@@ -3,11 +3,11 @@
 -- Assumes nothing.
 use Prim.Native.Nat.{ℕ, zero, suc, _+_, _<_, _≤_}
 use native.Mathlib.Omega.{arith}
-use mathlib.Core.Path.{_≡_, refl, sym, _∙_, ap, subst}
-use mathlib.Core.Bool.{Bool, true, false}
+use mathlib.Core.Path.{_≡_, sym, _∙_, ap, subst}
+use mathlib.Core.Bool.{true}
 use mathlib.Core.List.{List, [], _∷_}
-use lib.ListN.{length, getD}
-use Rattle.laws.specs.Choice.{ifB, ifLt, ifEq}
+use lib.ListN.{length}
+use Rattle.laws.specs.Choice.{ifEq}
 use Rattle.laws.proofs.Choice.{ifB-yes, ifB-no, ifLt-yes, ifLt-no, ifEq-yes, ifEq-no}
 use Rattle.network.specs.declared.Network.{Network}
 use Rattle.network.specs.Valid.{validNetwork}
@@ -24,7 +24,7 @@ use Rattle.automaton.specs.Answer.{answer}
 use Rattle.automaton.specs.Run.{after, step, run}
 use Rattle.guarantees.specs.Reading.{netOf, kindOf, read}
 use Rattle.guarantees.specs.Outcome as Outcome
-use Rattle.guarantees.specs.Outcome.{Judged, MethodOutcome, Names, UnknownAt, CutAt, ActOutcome, Taken, Stopped, atEnd, refused, Listed, ListOutcome}
+use Rattle.guarantees.specs.Outcome.{Judged, MethodOutcome, Names, UnknownAt, CutAt, ActOutcome, Taken, Stopped, atEnd, refused, ListOutcome}
 use Rattle.guarantees.proofs.Records.{unknown-read, cut-read, names-read}
 use Rattle.guarantees.proofs.Whole.{one-reading}
 use Rattle.guarantees.proofs.Outcomes.{in-range, judged-in, acted-as}

@@ -6,13 +6,11 @@ use native.Mathlib.Omega.{arith}
 use mathlib.Core.Path.{_≡_, refl, sym, _∙_, ap, subst}
 use mathlib.Core.Bool.{Bool, true, false}
 use mathlib.Core.List.{List, [], _∷_}
-use lib.ListN.{length, getD}
-use Rattle.laws.specs.Choice.{ifB, ifLt, ifEq, both}
+use lib.ListN.{length}
+use Rattle.laws.specs.Choice.{ifB, ifEq}
 use Rattle.laws.proofs.Choice.{ifB-yes, ifB-no, ifEq-yes, ifEq-no, lt-elim, eq-elim, both-left, both-right}
 use Rattle.network.specs.declared.Network.{Network}
 use Rattle.network.specs.Valid.{validNetwork}
-use Rattle.actions.specs.declared.Record.the-variants as Read
-use Rattle.actions.specs.Records.{readAt}
 use Rattle.synchronizer.specs.declared.State.{State}
 use Rattle.synchronizer.specs.declared.Done.{Done}
 use Rattle.synchronizer.specs.declared.Acted.{Acted}

@@ -1,29 +1,26 @@
 -- Every action that has a count has one of its own: the code's counter of an action is the one that is read, and two actions with one place in
 -- the array are one action.
 -- Assumes nothing.
-use Prim.Native.Nat.{ℕ, _+_, _*_, _<_, _≤_}
+use Prim.Native.Nat.{ℕ, _<_}
 use native.Mathlib.Omega.{arith}
 use mathlib.Core.Path.{_≡_, refl, sym, _∙_, ap, ap₂, subst}
 use mathlib.Core.Bool.{Bool, true, false}
 use lib.Dec.{ltb}
-use lib.ListN.{length, getD}
 use borrow.Author.Tests.{ltb-true}
 use Rattle.laws.specs.Choice.{ifB}
-use Rattle.laws.proofs.Choice.{ifB-yes, ifB-no}
 use Rattle.network.specs.declared.Network.{Network}
 use Rattle.network.specs.Valid.{validNetwork}
 use Rattle.network.proofs.Valid.{valid-limits}
 use Rattle.actions.specs.declared.Kind.{Kind}
 use Rattle.actions.specs.declared.Place.{Place}
 use Rattle.actions.specs.declared.Counter.{Counter}
-use Rattle.actions.specs.Kinds.{kinds, count, cellOf}
+use Rattle.actions.specs.Kinds.{count, cellOf}
 use Rattle.actions.specs.Table.{placeOf, ownOf}
-use Rattle.actions.proofs.Cells.{cell-inside, same-cell}
-use Rattle.synchronizer.specs.declared.State.{State}
+use Rattle.actions.proofs.Cells.{same-cell}
 use Rattle.synchronizer.specs.Wires.{wiresOf, lanesOf, laneIn}
-use Rattle.synchronizer.specs.Answer.{countIn, ownIn}
+use Rattle.synchronizer.specs.Answer.{ownIn}
 use Rattle.automaton.specs.Actions.{Act, bodyOf}
-use Rattle.guarantees.specs.Reading.{joins, directionOf, kindOf, namesLink, seated, seatOf, countOf}
+use Rattle.guarantees.specs.Reading.{joins, directionOf, kindOf, namesLink, seated, seatOf}
 use Rattle.guarantees.proofs.Directions.{direction-in-row, one-direction, lane-is}
 use Rattle.guarantees.proofs.Tables.{actionOf, placeAs, named, rowOf, body-is}
 

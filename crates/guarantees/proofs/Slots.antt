@@ -8,7 +8,7 @@ use native.Mathlib.Decide.{ℕ-discrete}
 use mathlib.Core.Path.{_≡_, refl, sym, _∙_, ap, ap₂, subst}
 use mathlib.Core.Bool.{Bool, true, false}
 use mathlib.Core.List.{List}
-use lib.ListN.{length, getD, set}
+use lib.ListN.{getD, set}
 use lib.Seq.{getD-set-same, getD-set-other}
 use Rattle.laws.specs.Choice.{ifB, ifLt}
 use Rattle.laws.proofs.Choice.{ifB-yes, ifLt-yes, true-not-false}
@@ -20,7 +20,7 @@ use Rattle.synchronizer.specs.Wires.{wiresOf}
 use Rattle.synchronizer.specs.Answer.{countIn, ownIn}
 use Rattle.synchronizer.specs.After.{queues, effectIn, counted, afterIn, afterOf}
 use Rattle.synchronizer.specs.Valid.{StateClauses, Sized}
-use Rattle.automaton.specs.Actions.{Act, same, packetDelivered, bodyOf}
+use Rattle.automaton.specs.Actions.{same, packetDelivered, bodyOf}
 use Rattle.automaton.specs.Global.{Global, parity}
 use Rattle.automaton.specs.Answer.{packetAtFront}
 use Rattle.automaton.specs.Run.{carried, after}

@@ -4,12 +4,12 @@ use Prim.Native.Nat.{ℕ, zero, suc, _+_, _*_, _<_}
 use native.Mathlib.Omega.{arith}
 use mathlib.Core.Path.{_≡_, refl, sym, _∙_, ap, ap₂}
 use mathlib.Core.Bool.{Bool, true}
-use mathlib.Core.List.{List, [], map}
+use mathlib.Core.List.{[], map}
 use lib.ListN.{length, getD, replicate}
-use Rattle.laws.specs.Choice.{ifB, ifLt}
+use Rattle.laws.specs.Choice.{ifB}
 use Rattle.laws.specs.Below.{listBelow}
 use Rattle.laws.proofs.Choice.{b-elim, lt-elim, ifB-yes}
-use Rattle.nodeset.specs.Marks.{member, valuesIn}
+use Rattle.nodeset.specs.Marks.{valuesIn}
 use Rattle.nodeset.proofs.Members.{values-same}
 use Rattle.network.specs.declared.Network.{Network}
 use Rattle.network.specs.Valid.{validNetwork}
@@ -21,7 +21,6 @@ use Rattle.actions.specs.Kinds.{kinds, cellOf}
 use Rattle.synchronizer.specs.declared.Done.{Done}
 use Rattle.synchronizer.specs.Start.{freshWith, startOf}
 use Rattle.synchronizer.proofs.Entries.{repeated-at}
-use Rattle.automaton.specs.Actions.{Act}
 use Rattle.automaton.specs.Network.{neighbours}
 use Rattle.automaton.specs.Global.{begin}
 use Rattle.automaton.specs.Lockstep.{lockstep}

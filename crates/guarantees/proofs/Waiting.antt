@@ -2,19 +2,18 @@
 -- they were; and what the code finds first in a direction is what stands at the head of the list.
 -- Assumes nothing.
 use Prim.Native.Nat.{ℕ, zero, suc, _+_, _-_, _*_, _<_, _≤_}
-use native.Mathlib.Nat.{le-refl, add-zero, not-suc-le-zero}
+use native.Mathlib.Nat.{le-refl, add-zero}
 use native.Mathlib.Numerals.{add-one}
 use native.Mathlib.Omega.{arith}
 use mathlib.Core.Path.{_≡_, refl, sym, _∙_, ap, ap₂, subst}
-use mathlib.Core.Bool.{Bool, true, false, false≢true}
+use mathlib.Core.Bool.{true, false≢true}
 use mathlib.Core.List.{List, [], _∷_, _++_, tail}
-use mathlib.Core.Logic.{_⊎_, inl, inr, ⊎-elim}
-use lib.ListN.{length, getD, set, length-set}
+use mathlib.Core.Logic.{_⊎_, inl, inr}
+use lib.ListN.{length, getD, set}
 use lib.Seq.{getD-set-same, getD-set-other}
-use Rattle.laws.specs.Choice.{ifB, ifLt, ifEq}
+use Rattle.laws.specs.Choice.{ifB, ifEq}
 use Rattle.laws.specs.Below.{listBelow}
-use Rattle.laws.proofs.Choice.{ifB-yes, ifLt-yes, ifEq-yes, ifEq-no, eq-elim}
-use Rattle.laws.proofs.Below.{length-list}
+use Rattle.laws.proofs.Choice.{ifLt-yes, ifEq-yes, ifEq-no}
 use Rattle.synchronizer.specs.declared.Head.{Head}
 use Rattle.synchronizer.specs.Answer as Code
 use Rattle.synchronizer.specs.Answer.{headOf}
@@ -22,7 +21,7 @@ use Rattle.synchronizer.specs.After.{Queues, queues, pushed, movedUp, popped}
 use Rattle.automaton.specs.Global.{Msg, packet, ack}
 use Rattle.automaton.specs.Answer.{must, packetAtFront, ackAtFront}
 use Rattle.automaton.specs.Run.{carried}
-use Rattle.guarantees.specs.Reading.{messageOf, waitingIn}
+use Rattle.guarantees.specs.Reading.{messageOf}
 
 -- ---- lists of the first n
 

@@ -4,16 +4,14 @@
 use Prim.Native.Nat.{ℕ, _+_, _-_, _*_, _/_, _%_, _<_, _≤_}
 use native.Mathlib.Omega.{arith}
 use native.Mathlib.Decide.{decLt}
-use mathlib.Core.Path.{_≡_, refl, sym, _∙_, ap, ap₂, subst}
+use mathlib.Core.Path.{_≡_, refl, sym, _∙_, ap, subst}
 use mathlib.Core.Bool.{Bool, true, false}
 use mathlib.Core.List.{List, []}
 use mathlib.Core.Logic.{_⊎_, inl, inr}
-use lib.Dec.{ltb}
 use lib.ListN.{length, getD}
 use lib.Seq.{ext-getD}
 use borrow.Author.Tests.{lt-ltb}
-use Rattle.laws.specs.Choice.{ifB, ifLt, ifEq}
-use Rattle.laws.specs.Below.{listBelow}
+use Rattle.laws.specs.Choice.{ifB, ifEq}
 use Rattle.laws.proofs.Choice.{ifB-yes, ifLt-yes, ifEq-yes, ifEq-no}
 use Rattle.laws.proofs.Below.{length-list, list-at}
 use Rattle.network.specs.declared.Network.{Network}
@@ -30,8 +28,8 @@ use Rattle.synchronizer.specs.Answer.{countIn}
 use Rattle.synchronizer.specs.Valid.{usedBy, validState, StateClauses, Sized}
 use Rattle.synchronizer.proofs.States.{valid-state-clauses}
 use Rattle.automaton.specs.Actions.{Act}
-use Rattle.automaton.specs.Global.{Msg, packet, ack, Global}
-use Rattle.guarantees.specs.Reading.{joins, directionOf, namesLink, seated, seatOf, countOf, messageOf, waitingIn, read}
+use Rattle.automaton.specs.Global.{packet, ack}
+use Rattle.guarantees.specs.Reading.{joins, namesLink, seated, messageOf, waitingIn, read}
 use Rattle.guarantees.proofs.Directions.{direction-of}
 use Rattle.guarantees.proofs.Tables.{actionOf, placeAs}
 use Rattle.guarantees.proofs.Seats.{counterOf, seat-of-link, seated-link, seat-of-node, seated-node}

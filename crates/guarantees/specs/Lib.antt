@@ -1,2 +1,5 @@
+pub mod Among
 pub mod Outcome
 pub mod Reading
+pub mod Steps
+pub mod Trials

@@ -49,12 +49,12 @@ refused-plan s k w (by-whole n net A b) =
 
 -- ---- from the answer to what the bytes hold
 
--- what a plan's bytes come to
-data Outcome (s : List ℕ) : Type 0 where
+-- what a plan's bytes come to: accepted or refused, and there is no third
+pub data Outcome (s : List ℕ) : Type 0 where
   taken : (n : ℕ) (net : Network) → planOf s ≡ acceptedWith n net → Accepted s n net → Outcome s
   stopped : (k w : ℕ) → (k ≡ accepted → ⊥) → planOf s ≡ refusedWith k w → Refused s k w → Outcome s
 
-outcome : (s : List ℕ) → Bytes s → Outcome s
+pub outcome : (s : List ℕ) → Bytes s → Outcome s
 outcome s small = ⊎-elim listed refused (every-answer s small)
   where
     listed : (n : ℕ) × (net : Network) × (listsOf s ≡ acceptedWith n net) → Outcome s

@@ -30,75 +30,90 @@ use Rattle.synchronizer.specs.declared.Done.{Done}
 use Rattle.synchronizer.specs.declared.Acted.{Acted}
 use Rattle.synchronizer.specs.declared.Ran.{Ran}
 use Rattle.synchronizer.specs.Wires.{Wires, wiresOf, laneIn, aroundOf}
-use Rattle.synchronizer.specs.Answer.{countIn, packet, ack, startsRound, ownIn, answerOf}
-use Rattle.synchronizer.specs.After.{Queues, queues, pushed, popped, slotAt, meanHeard, effectIn, counted, afterIn, afterOf}
+use Rattle.synchronizer.specs.Answer.{countIn, packet, ack, startsRound, ownIn, answerIn, answerOf}
+use Rattle.synchronizer.specs.After.{stateOf, Queues, queues, pushed, slotAt, meanHeard, effectIn, counted, afterIn, afterOf}
 use Rattle.synchronizer.specs.Start.{freshWith, startOf}
 use Rattle.synchronizer.specs.Entry.{done, inRange, doneIn, doneOf, actedAs, recordIn, actIn, actOf, listFrom, listOf}
-use Rattle.synchronizer.specs.Valid.{usedBy, entryFits, pastFits, validState, Sized}
+use Rattle.synchronizer.specs.Valid.{usedBy, entryFits, loadFits, pastFits, validState, Sized}
 use Rattle.synchronizer.proofs.Entries.{set-keeps-at, repeated-at}
-use Rattle.synchronizer.proofs.States.{a-packet, an-ack, entry-of, entry-most, message-of, past-of, QueuesPass, Passes, valid-passes, passes-valid, used-at-most-256}
-use Rattle.synchronizer.proofs.Waiting.{QueuesLong, pushed-keeps, popped-keeps}
+use Rattle.synchronizer.proofs.States.{Message, a-packet, an-ack, entry-of, entry-most, sort-of, load-of, past-of, Passes, valid-passes, passes-valid, used-at-most-256}
+use Rattle.synchronizer.proofs.Waiting.{QueuesSound, pushed-keeps, popped-keeps}
 use Rattle.synchronizer.proofs.Taken.{Taken, answer-0-taken, count-may-rise, taken-lane, taken-own}
 
 -- what is kept: the state is in range, and its arrays are as long as the struct says
 abbrev pub Sound : Network → State → Type 0
 Sound net s = (validState net s ≡ true) × Sized s
 
--- the same, entry by entry
-abbrev Kept : Network → State → Type 0
-Kept net s = Passes net s × Sized s
+-- the same, array by array
+abbrev CountsSound : Network → List ℕ → Type 0
+CountsSound net counts =
+    ((k : Kind) (x : ℕ) → x < 256 → entryFits (net .rounds) (usedBy (net .nodes) (net .links) k) x (countIn counts (count k x)) ≡ true) × (length counts ≡ length kinds * 256)
+
+abbrev RestSound : ℕ → ℕ → List ℕ → Type 0
+RestSound used n xs = ((x : ℕ) → x < n → pastFits used x (getD xs x 0) ≡ true) × (length xs ≡ n)
+
+record Kept (net : Network) (s : State) : Type 0 where
+  counts : CountsSound net (s .counts)
+  queues : QueuesSound (net .links) (queues (s .lens) (s .sorts) (s .loads))
+  slots : RestSound (net .links * 4) 512 (s .slots)
+  values : RestSound (net .nodes) 64 (s .values)
+
+sound-kept : (net : Network) (s : State) → Sound net s → Kept net s
+sound-kept net s h =
+    let a = valid-passes net s (h .0) in
+    let z = h .1 in
+    record {
+      counts = (a .counted, z .counts);
+      queues = (a .queued, record { lens = z .lens; sorts = z .sorts; loads = z .loads });
+      slots = (a .slot, z .slots);
+      values = (a .value, z .values);
+    }
+
+kept-sound : (net : Network) (s : State) → Kept net s → Sound net s
+kept-sound net s h =
+    let q = h .queues .1 in
+    (passes-valid net s (record { counted = h .counts .0; queued = h .queues .0; slot = h .slots .0; value = h .values .0 }), record { counts = h .counts .1; lens = q .lens; sorts = q .sorts; loads = q .loads; slots = h .slots .1; values = h .values .1 })
 
 -- ---- counts
 
 -- no count is above rounds, whatever the cell
-every-count : (net : Network) (s : State) → Kept net s → (c : ℕ) → getD (s .counts) c 0 ≤ net .rounds
+every-count : (net : Network) (counts : List ℕ) → CountsSound net counts → (c : ℕ) → getD counts c 0 ≤ net .rounds
 unfolding indexOf cellOf
-every-count net s kept c = at (decLt c (length kinds * 256))
+every-count net counts kept c = at (decLt c (length kinds * 256))
   where
     k : Kind
     k = kindAt (c / 256)
 
-    at : Dec (c < length kinds * 256) → getD (s .counts) c 0 ≤ net .rounds
+    at : Dec (c < length kinds * 256) → getD counts c 0 ≤ net .rounds
     at (yes h) =
         let cell : indexOf k * 256 + c % 256 ≡ c = omega (arith, number-at (c / 256) (omega arith)) in
-        subst (λ x. getD (s .counts) x 0 ≤ net .rounds) cell (entry-most (net .rounds) (usedBy (net .nodes) (net .links) k) (c % 256) (kept .0 .counted k (c % 256) (omega arith)))
-    at (no h) = omega (arith, List·getD-eq-default (s .counts) 0 {n = c} (omega (arith, kept .1 .counts)))
+        subst (λ x. getD counts x 0 ≤ net .rounds) cell (entry-most (net .rounds) (usedBy (net .nodes) (net .links) k) (c % 256) (kept .0 k (c % 256) (omega arith)))
+    at (no h) = omega (arith, List·getD-eq-default counts 0 {n = c} (omega (arith, kept .1)))
 
-module _ (net : Network) (v : validNetwork net ≡ true) where
-  -- a count in use that rises to at most rounds
-  counts-keep : (s : State) → Kept net s → (k : Kind) (x i : ℕ) → x < usedBy (net .nodes) (net .links) k → i ≤ net .rounds → Kept net (counted (wiresOf net) s (count k x) i)
-  unfolding counted
-  counts-keep s kept k x i used most = (
-    record {
-      counted = λ j y h. set-keeps-at P (s .counts) (cellOf (count k x)) i 0 new old (cellOf (count j y)) j y h refl;
-      queued = kept .0 .queued;
-      slot = kept .0 .slot;
-      value = kept .0 .value;
-    },
-    record {
-      counts = length-set (s .counts) (cellOf (count k x)) i ∙ kept .1 .counts;
-      lens = kept .1 .lens;
-      sorts = kept .1 .sorts;
-      loads = kept .1 .loads;
-      slots = kept .1 .slots;
-      values = kept .1 .values;
-    },
-  )
-    where
-      P : ℕ → ℕ → Type 0
-      P c n = (j : Kind) (y : ℕ) → y < 256 → cellOf (count j y) ≡ c → entryFits (net .rounds) (usedBy (net .nodes) (net .links) j) y n ≡ true
+-- a count in use that rises to at most rounds
+counts-keep : (net : Network) → validNetwork net ≡ true → (counts : List ℕ) → CountsSound net counts → (k : Kind) (x i : ℕ) → x < usedBy (net .nodes) (net .links) k → i ≤ net .rounds → CountsSound net (set counts (cellOf (count k x)) i)
+counts-keep net v counts kept k x i used most =
+    ((λ j y h. set-keeps-at P counts (cellOf (count k x)) i 0 new old (cellOf (count j y)) j y h refl), length-set counts (cellOf (count k x)) i ∙ kept .1)
+  where
+    P : ℕ → ℕ → Type 0
+    P c n = (j : Kind) (y : ℕ) → y < 256 → cellOf (count j y) ≡ c → entryFits (net .rounds) (usedBy (net .nodes) (net .links) j) y n ≡ true
 
-      -- the cell that is set is that of no other count
-      new : P (cellOf (count k x)) i
-      new j y h e =
-          let (same-kind, same-place) = same-cell j k y x h (omega (arith, used-at-most-256 net v k)) e in
-          entry-of (λ _. most) (λ past. absurd (omega (arith, ap (usedBy (net .nodes) (net .links)) same-kind)))
+    -- the cell that is set is that of no other count
+    new : P (cellOf (count k x)) i
+    new j y h e =
+        let (same-kind, same-place) = same-cell j k y x h (omega (arith, used-at-most-256 net v k)) e in
+        entry-of (λ _. most) (λ past. absurd (omega (arith, ap (usedBy (net .nodes) (net .links)) same-kind)))
 
-      old : (c : ℕ) → P c (getD (s .counts) c 0)
-      old c j y h e =
-          subst (λ z. entryFits (net .rounds) (usedBy (net .nodes) (net .links) j) y (getD (s .counts) z 0) ≡ true) e (kept .0 .counted j y h)
+    old : (c : ℕ) → P c (getD counts c 0)
+    old c j y h e =
+        subst (λ z. entryFits (net .rounds) (usedBy (net .nodes) (net .links) j) y (getD counts z 0) ≡ true) e (kept .0 j y h)
 
 -- ---- what an action does besides
+
+-- an entry in use may be anything
+rest-keeps : (used n : ℕ) (xs : List ℕ) (i v : ℕ) → RestSound used n xs → i < used → RestSound used n (set xs i v)
+rest-keeps used n xs i v kept h =
+    (set-keeps-at (λ x m. x < n → pastFits used x m ≡ true) xs i v 0 (λ _. past-of (λ past. absurd (omega arith))) (kept .0), length-set xs i v ∙ kept .1)
 
 -- the actions that move a message
 onQueue : Does → Bool
@@ -116,73 +131,64 @@ unfolding onQueue doesOf bodyOf namesOf placeOf kindAt allBelow both ifB
 queue-names-two k q =
     eqb-true (bodyOf k) 2 (sym (ifB-yes (onQueue (doesOf k)) (eqb (bodyOf k) 2) true q) ∙ every-kind (λ j. ifB (onQueue (doesOf j)) (eqb (bodyOf j) 2) true) refl k)
 
-module _ (net : Network) (v : validNetwork net ≡ true) (w : Wires) where
-  -- other queues, slots and values beside the same counts
-  kept-with : (s : State) → Kept net s → (u : Queues) (slots values : List ℕ) → QueuesPass (net .links) u × QueuesLong u
-      → ((x : ℕ) → x < 512 → pastFits (net .links * 4) x (getD slots x 0) ≡ true) → length slots ≡ 512
-      → ((p : ℕ) → p < 64 → pastFits (net .nodes) p (getD values p 0) ≡ true) → length values ≡ 64
-      → Kept net (record { counts = s .counts; lens = u .lens; sorts = u .sorts; loads = u .loads; slots = slots; values = values })
-  kept-with s kept u slots values q a b c d = (
-    record { counted = kept .0 .counted; queued = q .0; slot = a; value = c },
-    record { counts = kept .1 .counts; lens = q .1 .lens; sorts = q .1 .sorts; loads = q .1 .loads; slots = b; values = d },
-  )
-
-  effect-keeps : (does : Does) (p d i : ℕ) (s : State) → Kept net s → p < net .nodes → (onQueue does ≡ true → d < net .links * 2) → Kept net (effectIn w does p d i s)
+module _ (net : Network) (v : validNetwork net ≡ true) (w : Wires) (p d i : ℕ) (s : State) (kept : Kept net s) (there : p < net .nodes) where
+  effect-keeps : (does : Does) → (onQueue does ≡ true → d < net .links * 2) → Kept net (effectIn w does p d i s)
   unfolding effectIn onQueue
-  effect-keeps does p d i s kept hp hd = at does hd
+  effect-keeps does = at does
     where
       u : Queues
       u = queues (s .lens) (s .sorts) (s .loads)
 
-      long : QueuesLong u
-      long = record { lens = kept .1 .lens; sorts = kept .1 .sorts; loads = kept .1 .loads }
+      with-queues : (u : Queues) → QueuesSound (net .links) u → (slots : List ℕ) → RestSound (net .links * 4) 512 slots → Kept net (stateOf (s .counts) (u .lens) (u .sorts) (u .loads) slots (s .values))
+      with-queues u q slots a = record { counts = kept .counts; queues = q; slots = a; values = kept .values }
+
+      pushes : (sort load : ℕ) → d < net .links * 2 → Message sort → loadFits sort load ≡ true → QueuesSound (net .links) (pushed u d sort load)
+      pushes sort load = pushed-keeps (net .links) u (kept .queues) d sort load (valid-limits net v .at-most-128-links)
 
       at : (does : Does) → (onQueue does ≡ true → d < net .links * 2) → Kept net (effectIn w does p d i s)
-      at Does.Starts hd = kept
-      at Does.Counts hd = kept
-      at Does.SendsPacket hd =
-          kept-with s kept (pushed u d packet (getD (s .values) p 0)) (s .slots) (s .values) (pushed-keeps (net .links) u (kept .0 .queued) long d packet (getD (s .values) p 0) (valid-limits net v .at-most-128-links) (hd refl) (a-packet refl)) (kept .0 .slot) (kept .1 .slots) (kept .0 .value) (kept .1 .values)
-      at Does.SendsAck hd =
-          kept-with s kept (pushed u d ack 0) (s .slots) (s .values) (pushed-keeps (net .links) u (kept .0 .queued) long d ack 0 (valid-limits net v .at-most-128-links) (hd refl) (an-ack refl refl)) (kept .0 .slot) (kept .1 .slots) (kept .0 .value) (kept .1 .values)
-      at Does.TakesPacket hd =
-          kept-with s kept (popped u d) (set (s .slots) (slotAt d i) (getD (s .loads) (d * 2) 0)) (s .values) (popped-keeps (net .links) u (kept .0 .queued) long d) (set-keeps-at (λ x n. x < 512 → pastFits (net .links * 4) x n ≡ true) (s .slots) (slotAt d i) (getD (s .loads) (d * 2) 0) 0 (λ _. past-of (λ past. absurd (omega (arith, hd refl)))) (kept .0 .slot)) (length-set (s .slots) (slotAt d i) (getD (s .loads) (d * 2) 0) ∙ kept .1 .slots) (kept .0 .value) (kept .1 .values)
-      at Does.TakesAck hd =
-          kept-with s kept (popped u d) (s .slots) (s .values) (popped-keeps (net .links) u (kept .0 .queued) long d) (kept .0 .slot) (kept .1 .slots) (kept .0 .value) (kept .1 .values)
-      at Does.Means hd =
+      at Does.Starts h = kept
+      at Does.Counts h = kept
+      at Does.SendsPacket h =
+          with-queues _ (pushes packet (getD (s .values) p 0) (h refl) (a-packet refl) (load-of (λ none. absurd (none refl)))) (s .slots) (kept .slots)
+      at Does.SendsAck h = with-queues _ (pushes ack 0 (h refl) (an-ack refl) (load-of (λ _. refl))) (s .slots) (kept .slots)
+      at Does.TakesPacket h =
+          with-queues _ (popped-keeps (net .links) u (kept .queues) d) _ (rest-keeps (net .links * 4) 512 (s .slots) (slotAt d i) (getD (s .loads) (d * 2) 0) (kept .slots) (omega (arith, h refl)))
+      at Does.TakesAck h = with-queues _ (popped-keeps (net .links) u (kept .queues) d) (s .slots) (kept .slots)
+      at Does.Means h =
           let mean : ℕ = meanHeard (w .lanes) (s .slots) (getD (w .neighbours) p 0) p (getD (s .values) p 0) i in
-          kept-with s kept u (s .slots) (set (s .values) p mean) (kept .0 .queued, long) (kept .0 .slot) (kept .1 .slots) (set-keeps-at (λ x n. x < 64 → pastFits (net .nodes) x n ≡ true) (s .values) p mean 0 (λ _. past-of (λ past. absurd (omega arith))) (kept .0 .value)) (length-set (s .values) p mean ∙ kept .1 .values)
+          record { counts = kept .counts; queues = kept .queues; slots = kept .slots; values = rest-keeps (net .nodes) 64 (s .values) p mean (kept .values) there }
 
 -- ---- an action, one from bytes, a list
 
 module _ (net : Network) (v : validNetwork net ≡ true) where
   pub taken-keeps : (s : State) (k : Kind) (p q : ℕ) → validState net s ≡ true → Sized s → answerOf net s k p q ≡ 0 → (validState net (afterOf net s k p q) ≡ true) × Sized (afterOf net s k p q)
-  unfolding afterIn wiresOf
-  taken-keeps s k p q valid sized e = (passes-valid net (afterOf net s k p q) (after .0), after .1)
+  unfolding afterIn counted wiresOf
+  taken-keeps s k p q valid sized e = kept-sound net (afterOf net s k p q) after
     where
       w : Wires
       w = wiresOf net
 
-      i : ℕ
-      i = countIn (s .counts) (ownIn w k p q) + 1
+      n : ℕ
+      n = countIn (s .counts) (ownIn w k p q)
 
       kept : Kept net s
-      kept = (valid-passes net s valid, sized)
+      kept = sound-kept net s (valid, sized)
 
       t : Taken w s k p q
       t = answer-0-taken w s k p q e
 
-      in-rounds : i ≤ net .rounds
+      in-rounds : n + 1 ≤ net .rounds
       in-rounds =
-          omega (arith, count-may-rise (startsRound (doesOf k)) (net .rounds) (countIn (s .counts) (ownIn w k p q)) (countIn (s .counts) (needOf k p (aroundOf w p q))) (t .counts) (every-count net s kept (cellOf (needOf k p (aroundOf w p q)))))
+          omega (arith, count-may-rise (startsRound (doesOf k)) (net .rounds) n (countIn (s .counts) (needOf k p (aroundOf w p q))) (t .counts) (every-count net (s .counts) (kept .counts) (cellOf (needOf k p (aroundOf w p q)))))
 
-      risen : Kept net (counted w s (ownIn w k p q) i)
+      risen : CountsSound net (set (s .counts) (cellOf (ownIn w k p q)) (n + 1))
       risen =
           let (x, own, used) = taken-own net v s k p q t in
-          subst (λ c. Kept net (counted w s c i)) (sym own) (counts-keep net v s kept k x i used in-rounds)
+          subst (λ c. CountsSound net (set (s .counts) (cellOf c) (n + 1))) (sym own) (counts-keep net v (s .counts) (kept .counts) k x (n + 1) used in-rounds)
 
       after : Kept net (afterOf net s k p q)
       after =
-          effect-keeps net v w (doesOf k) p (laneIn (w .lanes) p q) i (counted w s (ownIn w k p q) i) risen (t .p-below) (λ moves. taken-lane net v s k p q t (queue-names-two k moves))
+          effect-keeps net v w p (laneIn (w .lanes) p q) (n + 1) (counted w s (ownIn w k p q) (n + 1)) (record { counts = risen; queues = kept .queues; slots = kept .slots; values = kept .values }) (t .p-below) (doesOf k) (λ moves. taken-lane net v s k p q t (queue-names-two k moves))
 
   -- an action on a network and a state that are in range, taken or refused
   pub done-in-keeps : (s : State) (k : Kind) (p q : ℕ) → Sound net s → Sound net (doneIn (wiresOf net) s k p q .state)
@@ -231,11 +237,27 @@ module _ (net : Network) (s : State) (h : Sound net s) where
 
 -- ---- a refusal hands the state back
 
+done-in-refused : (w : Wires) (s : State) (k : Kind) (p q : ℕ) → 0 < doneIn w s k p q .answer → doneIn w s k p q .state ≡ s
+unfolding doneIn
+done-in-refused w s k p q =
+    eq-elim {A = Done} (λ r. 0 < r .answer → r .state ≡ s) (answerIn w s k p q) 0 _ _ (λ _ h. absurd (omega arith)) (λ _ _. refl)
+
+act-in-refused : (w : Wires) (s : State) (r : Record) → 0 < recordIn w s r .answer → recordIn w s r .state ≡ s
+unfolding recordIn actedAs
+act-in-refused w s Record.Unknown = λ _. refl
+act-in-refused w s Record.Short = λ _. refl
+act-in-refused w s (Record.Act k p q width) =
+    eq-elim {A = Acted} (λ r. 0 < r .answer → r .state ≡ s) (doneIn w s k p q .answer) 0 _ _ (λ _ h. absurd (omega arith)) (λ _. done-in-refused w s k p q)
+
 pub done-refused : (net : Network) (s : State) (k : Kind) (p q : ℕ) → 0 < doneOf net s k p q .answer → doneOf net s k p q .state ≡ s
-unfolding doneOf doneIn
+unfolding doneOf
 done-refused net s k p q =
-    b-elim {A = Done} (λ r. 0 < r .answer → r .state ≡ s) (inRange net s) _ _ (λ _. eq-elim {A = Done} (λ r. 0 < r .answer → r .state ≡ s) (answerOf net s k p q) 0 _ _ (λ _ h. absurd (omega arith)) (λ _ _. refl))
-    (λ _ _. refl)
+    b-elim {A = Done} (λ r. 0 < r .answer → r .state ≡ s) (inRange net s) _ _ (λ _. done-in-refused (wiresOf net) s k p q) (λ _ _. refl)
+
+pub act-refused : (net : Network) (s : State) (bytes : List ℕ) → 0 < actOf net s bytes .answer → actOf net s bytes .state ≡ s
+unfolding actOf actIn
+act-refused net s bytes =
+    b-elim {A = Acted} (λ r. 0 < r .answer → r .state ≡ s) (inRange net s) _ _ (λ _. act-in-refused (wiresOf net) s (readAt bytes 0)) (λ _ _. refl)
 
 -- ---- the start state
 
@@ -274,7 +296,8 @@ module _ (net : Network) (long : length (net .starts) ≡ 64) where
             counted = λ k x h. entry-of (λ _. omega (arith, none (length kinds * 256) (cellOf (count k x)))) (λ _. none (length kinds * 256) (cellOf (count k x)));
             queued = record {
               at-most-two = λ d h. entry-of (λ _. omega (arith, none 256 d)) (λ _. none 256 d);
-              message = λ d j h l. message-of (λ waits. absurd (omega (arith, none 256 d))) (λ _. (none 512 (d * 2 + j), none 512 (d * 2 + j)));
+              sort = λ d j h l. sort-of (λ waits. absurd (omega (arith, none 256 d))) (λ _. none 512 (d * 2 + j));
+              load = λ e h. load-of (λ _. none 512 e);
             };
             slot = λ x h. past-of (λ _. none 512 x);
             value = λ p h. past-of (λ past. valid-rest net v .no-start p past h);

@@ -1,6 +1,12 @@
+pub mod Directions
 pub mod Entries
+pub mod Faults
+pub mod Heads
 pub mod Keeps
+pub mod Limits
+pub mod Rows
 pub mod States
 pub mod Taken
 pub mod Trials
 pub mod Waiting
+pub mod Walks

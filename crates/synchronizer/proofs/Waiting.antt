@@ -11,15 +11,19 @@ use lib.ListN.{length, getD, set, length-set, List·getD-eq-default}
 use lib.Seq.{getD-set-other}
 use Rattle.laws.proofs.Choice.{lt-elim}
 use Rattle.synchronizer.specs.After.{Queues, queues, pushed, movedUp, popped}
-use Rattle.synchronizer.specs.Valid.{entryFits, messageFits}
+use Rattle.synchronizer.specs.Valid.{entryFits, sortFits, loadFits}
 use Rattle.synchronizer.proofs.Entries.{set-keeps-at, set-here}
-use Rattle.synchronizer.proofs.States.{Waits, entry-of, entry-most, entry-out, message-in, message-out, message-of, QueuesPass}
+use Rattle.synchronizer.proofs.States.{Message, entry-of, entry-most, entry-out, sort-in, sort-out, sort-of, load-of, QueuesPass}
 
 -- how long the queues' arrays are
 pub record QueuesLong (u : Queues) : Type 0 where
   pub lens : length (u .lens) ≡ 256
   pub sorts : length (u .sorts) ≡ 512
   pub loads : length (u .loads) ≡ 512
+
+-- what is kept
+abbrev pub QueuesSound : ℕ → Queues → Type 0
+QueuesSound links u = QueuesPass links u × QueuesLong u
 
 -- ---- the second entry moves up
 
@@ -47,15 +51,26 @@ module _ (xs : List ℕ) (d : ℕ) where
 
 -- ---- the queues stay in order
 
--- the test of a message looks at three entries only
-same-message : {len len′ sort sort′ load load′ : ℕ} (j : ℕ) → len ≡ len′ → sort ≡ sort′ → load ≡ load′ → messageFits len′ j sort′ load′ ≡ true → messageFits len j sort load ≡ true
-same-message j a b c e = rw (a, b, c) e
+-- a test of two entries goes by the entries alone
+same-sort : {len len′ sort sort′ : ℕ} (j : ℕ) → len ≡ len′ → sort ≡ sort′ → sortFits len′ j sort′ ≡ true → sortFits len j sort ≡ true
+same-sort j a b e = rw (a, b) e
 
-module _ (links : ℕ) (u : Queues) (pass : QueuesPass links u) (long : QueuesLong u) (d : ℕ) where
-  pub pushed-keeps : (sort load : ℕ) → links ≤ 128 → d < links * 2 → Waits sort load → QueuesPass links (pushed u d sort load) × QueuesLong (pushed u d sort load)
+same-load : {sort sort′ load load′ : ℕ} → sort ≡ sort′ → load ≡ load′ → loadFits sort′ load′ ≡ true → loadFits sort load ≡ true
+same-load a b e = rw (a, b) e
+
+module _ (links : ℕ) (u : Queues) (sound : QueuesSound links u) (d : ℕ) where
+  pass : QueuesPass links u
+  pass = sound .0
+
+  long : QueuesLong u
+  long = sound .1
+
+  pub pushed-keeps : (sort load : ℕ) → links ≤ 128 → d < links * 2 → Message sort → loadFits sort load ≡ true → QueuesSound links (pushed u d sort load)
   unfolding pushed
-  pushed-keeps sort load most used waits =
-      lt-elim (λ z. QueuesPass links z × QueuesLong z) (getD (u .lens) d 0) 2 (queues lens sorts loads) u (λ room. (record { at-most-two = λ e h. lengths room e h; message = λ e j h l. message room e j h l (ℕ-discrete e d) (ℕ-discrete j n) }, sizes)) (λ _. (pass, long))
+  pushed-keeps sort load most used message value =
+      lt-elim (QueuesSound links) (getD (u .lens) d 0) 2 (queues lens sorts loads) u
+      (λ room. (record { at-most-two = lengths room; sort = λ e j h l. sorts-fit room e j h l (ℕ-discrete e d) (ℕ-discrete j n); load = λ e h. loads-fit room e h (ℕ-discrete e (d * 2 + n)) }, sizes))
+      (λ _. sound)
     where
       n : ℕ
       n = getD (u .lens) d 0
@@ -81,32 +96,31 @@ module _ (links : ℕ) (u : Queues) (pass : QueuesPass links u) (long : QueuesLo
       lengths room =
           set-keeps-at (λ e v. e < 256 → entryFits 2 (links * 2) e v ≡ true) (u .lens) d (n + 1) 0 (λ _. entry-of (λ _. omega arith) (λ past. absurd (omega arith))) (pass .at-most-two)
 
-      -- a place of another queue, or another place of this one
-      other-place : (xs : List ℕ) (v e j : ℕ) → (e * 2 + j ≡ d * 2 + n → ⊥) → getD (set xs (d * 2 + n) v) (e * 2 + j) 0 ≡ getD xs (e * 2 + j) 0
-      other-place xs v e j = getD-set-other xs (d * 2 + n) (e * 2 + j) v 0
-
       longer : (e : ℕ) → e ≡ d → getD lens e 0 ≡ n + 1
       longer e same = set-here (u .lens) d e (n + 1) 0 same (omega (arith, long .lens))
 
-      message : n < 2 → (e j : ℕ) → e < 256 → j < 2 → Dec (e ≡ d) → Dec (j ≡ n) → messageFits (getD lens e 0) j (getD sorts (e * 2 + j) 0) (getD loads (e * 2 + j) 0) ≡ true
-      message room e j h l (no other) _ =
-          let apart : e * 2 + j ≡ d * 2 + n → ⊥ = λ q. other (omega arith) in
-          same-message j (getD-set-other (u .lens) d e (n + 1) 0 other) (other-place (u .sorts) sort e j apart) (other-place (u .loads) load e j apart) (pass .message e j h l)
-      message room e j h l (yes same) (yes new) =
-          let end : e * 2 + j ≡ d * 2 + n = omega arith in
-          same-message j (longer e same) (set-here (u .sorts) (d * 2 + n) (e * 2 + j) sort 0 end (omega (arith, long .sorts))) (set-here (u .loads) (d * 2 + n) (e * 2 + j) load 0 end (omega (arith, long .loads)))
-          (message-of (λ _. waits) (λ past. absurd (omega arith)))
-      message room e j h l (yes same) (no old) =
-          let apart : e * 2 + j ≡ d * 2 + n → ⊥ = λ q. old (omega arith) in
+      sorts-fit : n < 2 → (e j : ℕ) → e < 256 → j < 2 → Dec (e ≡ d) → Dec (j ≡ n) → sortFits (getD lens e 0) j (getD sorts (e * 2 + j) 0) ≡ true
+      sorts-fit room e j h l (no other) _ =
+          same-sort j (getD-set-other (u .lens) d e (n + 1) 0 other) (getD-set-other (u .sorts) (d * 2 + n) (e * 2 + j) sort 0 (λ q. other (omega arith))) (pass .sort e j h l)
+      sorts-fit room e j h l (yes same) (yes new) =
+          same-sort j (longer e same) (set-here (u .sorts) (d * 2 + n) (e * 2 + j) sort 0 (omega arith) (omega (arith, long .sorts))) (sort-of (λ _. message) (λ past. absurd (omega arith)))
+      sorts-fit room e j h l (yes same) (no old) =
           let len : getD (u .lens) e 0 ≡ n = ap (λ x. getD (u .lens) x 0) same in
-          let was = pass .message e j h l in
-          same-message j (longer e same) (other-place (u .sorts) sort e j apart) (other-place (u .loads) load e j apart)
-          (message-of (λ in-queue. message-in was (omega arith)) (λ past. message-out was (omega arith)))
+          let was = pass .sort e j h l in
+          same-sort j (longer e same) (getD-set-other (u .sorts) (d * 2 + n) (e * 2 + j) sort 0 (λ q. old (omega arith))) (sort-of (λ waits. sort-in was (omega arith)) (λ past. sort-out was (omega arith)))
 
-  pub popped-keeps : QueuesPass links (popped u d) × QueuesLong (popped u d)
+      loads-fit : n < 2 → (e : ℕ) → e < 512 → Dec (e ≡ d * 2 + n) → loadFits (getD sorts e 0) (getD loads e 0) ≡ true
+      loads-fit room e h (no other) =
+          same-load (getD-set-other (u .sorts) (d * 2 + n) e sort 0 other) (getD-set-other (u .loads) (d * 2 + n) e load 0 other) (pass .load e h)
+      loads-fit room e h (yes end) =
+          same-load (set-here (u .sorts) (d * 2 + n) e sort 0 end (omega (arith, long .sorts))) (set-here (u .loads) (d * 2 + n) e load 0 end (omega (arith, long .loads))) value
+
+  pub popped-keeps : QueuesSound links (popped u d)
   unfolding popped
   popped-keeps =
-      lt-elim (λ z. QueuesPass links z × QueuesLong z) 0 (getD (u .lens) d 0) (queues lens (movedUp (u .sorts) d) (movedUp (u .loads) d)) u (λ some. (record { at-most-two = lengths some; message = λ e j h l. message some e j h l (ℕ-discrete e d) }, sizes)) (λ _. (pass, long))
+      lt-elim (QueuesSound links) 0 (getD (u .lens) d 0) (queues lens (movedUp (u .sorts) d) (movedUp (u .loads) d)) u
+      (λ some. (record { at-most-two = lengths some; sort = λ e j h l. sorts-fit some e j h l (ℕ-discrete e d); load = λ e h. loads-fit some e h (ℕ-discrete e (d * 2)) (ℕ-discrete e (d * 2 + 1)) }, sizes))
+      (λ _. sound)
     where
       n : ℕ
       n = getD (u .lens) d 0
@@ -137,19 +151,21 @@ module _ (links : ℕ) (u : Queues) (pass : QueuesPass links u) (long : QueuesLo
       shorter : 0 < n → (e : ℕ) → e ≡ d → getD lens e 0 ≡ n - 1
       shorter some e same = set-here (u .lens) d e (n - 1) 0 same (omega (arith, long .lens, there some))
 
-      message : 0 < n → (e j : ℕ) → e < 256 → j < 2 → Dec (e ≡ d) → messageFits (getD lens e 0) j (getD (movedUp (u .sorts) d) (e * 2 + j) 0) (getD (movedUp (u .loads) d) (e * 2 + j) 0) ≡ true
-      message some e j h l (no other) =
-          let first : e * 2 + j ≡ d * 2 → ⊥ = λ q. other (omega arith) in
-          let second : e * 2 + j ≡ d * 2 + 1 → ⊥ = λ q. other (omega arith) in
-          same-message j (getD-set-other (u .lens) d e (n - 1) 0 other) (moved-other (u .sorts) d (e * 2 + j) first second) (moved-other (u .loads) d (e * 2 + j) first second) (pass .message e j h l)
-      message some e zero h l (yes same) =
-          let first : e * 2 + 0 ≡ d * 2 = omega arith in
-          let was = pass .message d 1 (there some) (omega arith) in
-          same-message 0 (shorter some e same) (moved-first (u .sorts) d (e * 2 + 0) first (omega (arith, long .sorts, there some))) (moved-first (u .loads) d (e * 2 + 0) first (omega (arith, long .loads, there some)))
-          (message-of (λ in-queue. message-in was (omega arith)) (λ past. message-out was (omega arith)))
-      message some e (suc zero) h l (yes same) =
-          let second : e * 2 + 1 ≡ d * 2 + 1 = omega arith in
+      sorts-fit : 0 < n → (e j : ℕ) → e < 256 → j < 2 → Dec (e ≡ d) → sortFits (getD lens e 0) j (getD (movedUp (u .sorts) d) (e * 2 + j) 0) ≡ true
+      sorts-fit some e j h l (no other) =
+          same-sort j (getD-set-other (u .lens) d e (n - 1) 0 other) (moved-other (u .sorts) d (e * 2 + j) (λ q. other (omega arith)) (λ q. other (omega arith))) (pass .sort e j h l)
+      sorts-fit some e zero h l (yes same) =
+          let was = pass .sort d 1 (there some) (omega arith) in
+          same-sort 0 (shorter some e same) (moved-first (u .sorts) d (e * 2 + 0) (omega arith) (omega (arith, long .sorts, there some))) (sort-of (λ waits. sort-in was (omega arith)) (λ past. sort-out was (omega arith)))
+      sorts-fit some e (suc zero) h l (yes same) =
           let two = entry-most 2 (links * 2) d (pass .at-most-two d (there some)) in
-          same-message 1 (shorter some e same) (moved-second (u .sorts) d (e * 2 + 1) second (omega (arith, long .sorts, there some))) (moved-second (u .loads) d (e * 2 + 1) second (omega (arith, long .loads, there some)))
-          (message-of (λ in-queue. absurd (omega arith)) (λ _. (refl, refl)))
-      message some e (suc (suc j)) h l (yes same) = absurd (omega arith)
+          same-sort 1 (shorter some e same) (moved-second (u .sorts) d (e * 2 + 1) (omega arith) (omega (arith, long .sorts, there some))) (sort-of (λ waits. absurd (omega arith)) (λ _. refl))
+      sorts-fit some e (suc (suc j)) h l (yes same) = absurd (omega arith)
+
+      loads-fit : 0 < n → (e : ℕ) → e < 512 → Dec (e ≡ d * 2) → Dec (e ≡ d * 2 + 1) → loadFits (getD (movedUp (u .sorts) d) e 0) (getD (movedUp (u .loads) d) e 0) ≡ true
+      loads-fit some e h (yes first) _ =
+          same-load (moved-first (u .sorts) d e first (omega (arith, long .sorts, there some))) (moved-first (u .loads) d e first (omega (arith, long .loads, there some))) (pass .load (d * 2 + 1) (omega (arith, there some)))
+      loads-fit some e h (no _) (yes second) =
+          same-load (moved-second (u .sorts) d e second (omega (arith, long .sorts, there some))) (moved-second (u .loads) d e second (omega (arith, long .loads, there some))) (load-of (λ _. refl))
+      loads-fit some e h (no f) (no g) =
+          same-load (moved-other (u .sorts) d e f g) (moved-other (u .loads) d e f g) (pass .load e h)

@@ -3,7 +3,7 @@
 -- Assumes nothing.
 use Prim.Native.Nat.{ℕ, _+_, _*_, _<_, _≤_}
 use mathlib.Core.Path.{_≡_}
-use mathlib.Core.Bool.{Bool, true, false}
+use mathlib.Core.Bool.{Bool, true}
 use mathlib.Core.List.{List}
 use mathlib.Core.Logic.{_⊎_}
 use lib.ListN.{length, getD}
@@ -37,19 +37,21 @@ countsFit nodes links rounds counts =
 unfoldable pub lengthsFit : ℕ → List ℕ → Bool
 lengthsFit links lens = allBelow (λ d. entryFits 2 (links * 2) d (getD lens d 0)) 256
 
--- place j of a queue: "a waiting message is neither packet nor ack, or is an ack with a value"; "an entry past .. a queue's length, is not 0"
-unfoldable pub messageFits : ℕ → ℕ → ℕ → ℕ → Bool
-messageFits len j sort load =
-    ifLt j len (ifEq sort packet true (ifEq sort ack (eqb load 0) false)) (both (eqb sort 0) (eqb load 0))
+-- place j of a queue: "a waiting message is neither packet nor ack"; "an entry .. past a queue's length, is not 0"
+unfoldable pub sortFits : ℕ → ℕ → ℕ → Bool
+sortFits len j sort = ifLt j len (ifEq sort packet true (eqb sort ack)) (eqb sort 0)
 
--- the two places of the queue of direction d
-unfoldable pub queueFits : List ℕ → List ℕ → List ℕ → ℕ → Bool
-queueFits lens sorts loads d =
-    both (messageFits (getD lens d 0) 0 (getD sorts (d * 2) 0) (getD loads (d * 2) 0))
-    (messageFits (getD lens d 0) 1 (getD sorts (d * 2 + 1) 0) (getD loads (d * 2 + 1) 0))
+-- both places of each queue
+unfoldable pub sortsFit : List ℕ → List ℕ → Bool
+sortsFit lens sorts =
+    allBelow (λ d. both (sortFits (getD lens d 0) 0 (getD sorts (d * 2) 0)) (sortFits (getD lens d 0) 1 (getD sorts (d * 2 + 1) 0))) 256
 
-unfoldable pub queuesFit : List ℕ → List ℕ → List ℕ → Bool
-queuesFit lens sorts loads = allBelow (queueFits lens sorts loads) 256
+-- a packet carries a value; "or is an ack with a value", and what is no message has none either
+unfoldable pub loadFits : ℕ → ℕ → Bool
+loadFits sort load = ifEq sort packet true (eqb load 0)
+
+unfoldable pub loadsFit : List ℕ → List ℕ → Bool
+loadsFit sorts loads = allBelow (λ e. loadFits (getD sorts e 0) (getD loads e 0)) 512
 
 -- any number where x is in use, and 0 past the count
 unfoldable pub pastFits : ℕ → ℕ → ℕ → Bool
@@ -63,7 +65,8 @@ unfoldable pub stateFits : ℕ → ℕ → ℕ → List ℕ → List ℕ → Lis
 stateFits nodes links rounds counts lens sorts loads slots values =
     both (countsFit nodes links rounds counts)
     (both (lengthsFit links lens)
-    (both (queuesFit lens sorts loads) (both (restFits (links * 4) slots 512) (restFits nodes values 64))))
+    (both (sortsFit lens sorts)
+    (both (loadsFit sorts loads) (both (restFits (links * 4) slots 512) (restFits nodes values 64)))))
 
 -- the state is within the ranges of answer 17
 unfoldable pub validState : Network → State → Bool

@@ -1,6 +1,6 @@
 -- What an action looks up in the network: the tables that it reads, and what it finds there around its nodes.
 -- Assumes nothing.
-use Prim.Native.Nat.{ℕ, _+_, _*_}
+use Prim.Native.Nat.{ℕ, _+_, _*_, _<_}
 use mathlib.Core.Bool.{Bool}
 use mathlib.Core.List.{List}
 use lib.Dec.{eqb}
@@ -52,6 +52,10 @@ parentOf w p = getD (w .parents) p 0
 -- "A node that names itself as parent is a root"
 unfoldable pub isRoot : List ℕ → ℕ → Bool
 isRoot parents p = eqb (getD parents p 0) p
+
+-- the first n entries are node numbers that the tables have room for
+abbrev pub Below64 : List ℕ → ℕ → Type 0
+Below64 xs n = (i : ℕ) → i < n → getD xs i 0 < 64
 
 -- what an action finds around its nodes
 unfoldable pub aroundOf : Wires → ℕ → ℕ → Around

@@ -1,4 +1,8 @@
 // The synchronizer: a state by value, its start, the state half of answer 17, the twenty actions, one action from bytes and a list of them.
+mod lanes;
+mod queue;
+mod test;
+mod valid;
 
 // What the bench holds between actions.
 pub struct State {

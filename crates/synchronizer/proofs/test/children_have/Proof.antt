@@ -1,0 +1,44 @@
+-- `children_have`: what is left to ask decides as the whole set does; a child that has not the word decides at once.
+-- Assumes nothing.
+
+use Prim.Native.Nat.{ℕ}
+use native.Mathlib.Omega.{arith}
+use mathlib.Core.Path.{_≡_, refl, sym, _∙_}
+use mathlib.Core.Bool.{Bool}
+use lib.Dec.{ltb}
+use Rattle.actions.specs.Kinds.{count}
+use Rattle.synchronizer.specs.Answer.{countIn, childrenHave}
+use Rattle.synchronizer.proofs.Walks.{lowest-low, walk-less, walk-on, walk-stops, walk-ends}
+use borrow.Author.Needs.{needs}
+use Rattle.synchronizer.proofs.test.children_have.Statement.{statement}
+use Rattle.synchronizer.proofs.test.children_have.Tie as tie
+
+abbrev Inv-loop : tie.InvT-loop
+Inv-loop counts word n rest₀ rest = childrenHave counts word n (rest₀ .marks) ≡ childrenHave counts word n (rest .marks)
+
+abbrev μ-loop : tie.MeasureT-loop
+μ-loop counts word n rest₀ rest = rest .marks
+
+cast-c : tie.Need-cast-c Inv-loop μ-loop
+cast-c c = omega (arith, lowest-low (c .before .before .before .loop .rest .marks) (c .lowest .result) (c .lowest .ensures) (search needs) (search needs))
+
+loop-less : tie.Need-loop-less Inv-loop μ-loop
+loop-less c = walk-less (c .before .before .before .before .before .before .loop .rest .marks) (c .before .before .before .lowest .result) (c .before .before .before .lowest .ensures) _ (search needs) (search needs) (c .without-lowest .ensures)
+
+loop-again : tie.Need-loop-again Inv-loop μ-loop
+unfolding childrenHave
+loop-again c = c .before .before .before .before .before .before .loop .inv
+    ∙ walk-on (c .before .before .before .before .before .before .loop .rest .marks) (c .before .before .before .lowest .result) (c .before .before .before .lowest .ensures) (λ x. ltb (c .before .before .before .before .before .before .before .args .n) (countIn (c .before .before .before .before .before .before .before .args .counts .now) (count (c .before .before .before .before .before .before .before .args .word) x))) _ (sym (c .before .before .above .ensures) ∙ c .before .if2 .taken) (c .without-lowest .ensures)
+
+returns : tie.Need-returns Inv-loop μ-loop
+unfolding childrenHave
+returns c = walk-stops (c .before .before .before .before .before .loop .rest .marks) (c .before .before .lowest .result) (c .before .before .lowest .ensures) (λ x. ltb (c .before .before .before .before .before .before .args .n) (countIn (c .before .before .before .before .before .before .args .counts .now) (count (c .before .before .before .before .before .before .args .word) x))) (search needs) (search needs) (sym (c .before .above .ensures) ∙ c .if2 .left)
+    ∙ sym (c .before .before .before .before .before .loop .inv)
+
+returns-2 : tie.Need-returns-2 Inv-loop μ-loop
+unfolding childrenHave
+returns-2 c = walk-ends (λ x. ltb (c .before .before .before .args .n) (countIn (c .before .before .before .args .counts .now) (count (c .before .before .before .args .word) x))) (c .before .before .loop .rest .marks) (search needs)
+    ∙ sym (c .before .before .loop .inv)
+
+pub children-have-spec : {M : Type 1} → statement M
+children-have-spec = tie.close (tie.spec Inv-loop μ-loop (λ c. search needs) (λ c κs. search needs) cast-c (λ c κs. search needs) (λ c κs. search needs) loop-less loop-again returns returns-2)

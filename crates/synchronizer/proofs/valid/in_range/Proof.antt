@@ -1,0 +1,26 @@
+-- `in_range`: the network's half first, which bounds its nodes and links for the state's half.
+-- Assumes nothing.
+use borrow.Author.Needs.{needs}
+use mathlib.Core.Path.{refl, sym, _∙_}
+use Rattle.laws.proofs.Choice.{both-on, both-off}
+use Rattle.network.proofs.Valid.{valid-limits}
+use Rattle.synchronizer.specs.Valid.{validState}
+use Rattle.synchronizer.specs.Entry.{inRange}
+use Rattle.synchronizer.proofs.valid.in_range.Statement.{statement}
+use Rattle.synchronizer.proofs.valid.in_range.Tie as tie
+
+state-fits-requires : tie.Need-state-fits-requires
+state-fits-requires c κs =
+    let l = valid-limits (c .before .before .args .net) (sym (c .before .valid .ensures) ∙ c .if1 .taken) in
+    (l .at-most-64-nodes, l .at-most-128-links)
+
+returns : tie.Need-returns
+unfolding inRange validState
+returns c = both-on _ _ _ (sym (c .before .before .valid .ensures) ∙ c .before .if1 .taken) (c .state-fits .ensures)
+
+returns-2 : tie.Need-returns-2
+unfolding inRange
+returns-2 c = both-off _ _ _ (sym (c .before .valid .ensures) ∙ c .if1 .left) refl
+
+pub in-range-spec : {M : Type 1} → statement M
+in-range-spec = tie.close (tie.spec (λ c κs. search needs) state-fits-requires returns returns-2)

@@ -1,0 +1,292 @@
+// The state half of answer 17, over any value of the struct, and the start state. Each array is gone through once from end to end, with what is
+// wrong of each entry gathered into one number, so that the loops go many entries at a time.
+ghost use mathlib.Core.Path.{_≡_};
+ghost use Prim.Native.Nat.{_+_, _*_, _<_, _≤_};
+ghost use lib.Dec.{leb, eqb};
+ghost use lib.ListN.{length, getD};
+ghost use Rattle.laws.specs.Choice.{ifLt, ifEq, both};
+ghost use Rattle.laws.specs.Below.{allBelow, listBelow};
+ghost use Rattle.actions.specs.Kinds.{kinds, kindAt};
+ghost use Rattle.actions.specs.Records.{bodyOf};
+ghost use Rattle.synchronizer.specs.After.{stateOf};
+ghost use Rattle.synchronizer.specs.Valid.{countsFit, lengthsFit, sortFits, sortsFit, loadFits, loadsFit, restFits, stateFits};
+ghost use Rattle.synchronizer.specs.Entry.{inRange};
+ghost use Rattle.synchronizer.specs.Start.{freshWith, startOf};
+use crate::Done;
+use crate::State;
+use crate::queue::ACK;
+use crate::queue::PACKET;
+use actions::BODIES;
+use network::Network;
+
+// By how much n is above the most that is allowed.
+fn excess(n: u16, most: u16) -> u16
+    ensures { λ r. ⌜ eqb r 0 ≡ leb n most ⌝ }
+{
+    if most < n {
+        return n - most;
+    }
+    0
+}
+
+// The most that each place of a row may hold, where the first are in use.
+fn limits(used: usize, most: u16) -> [u16; 256]
+    requires { ⌜ used ≤ 256 ⌝ }
+    ensures { λ r. ⌜ r ≡ listBelow (λ x. ifLt x used most 0) 256 ⌝ }
+{
+    let mut limits = [0u16; 256];
+    let mut x = 0;
+    while x < used {
+        limits[x] = most;
+        x += 1;
+    }
+    limits
+}
+
+fn row_fits(counts: &[u16; 5120], row: usize, limits: &[u16; 256]) -> bool
+    requires { ⌜ row < length kinds ⌝ }
+    ensures { λ r. ⌜ r ≡ allBelow (λ x. leb (getD (now (counts .entry)) (row * 256 + x) 0) (getD (now (limits .entry)) x 0)) 256 ⌝ }
+{
+    let base = row * 256;
+    let mut faults = 0u16;
+    let mut x = 0;
+    while x < 256 {
+        faults = faults | excess(counts[base + x], limits[x]);
+        x += 1;
+    }
+    faults == 0
+}
+
+// A kind with one node number in its body has a count for each node, one with two a count for each direction.
+fn kind_fits(counts: &[u16; 5120], row: usize, nodes: &[u16; 256], lanes: &[u16; 256]) -> bool
+    requires { ⌜ row < length kinds ⌝ }
+    ensures { λ r. ⌜ r ≡ allBelow (λ x. leb (getD (now (counts .entry)) (row * 256 + x) 0) (getD (ifEq (bodyOf (kindAt row)) 1 (now (nodes .entry)) (now (lanes .entry))) x 0)) 256 ⌝ }
+{
+    if BODIES[row] == 1 {
+        return row_fits(counts, row, nodes);
+    }
+    row_fits(counts, row, lanes)
+}
+
+fn rows_fit(counts: &[u16; 5120], nodes: &[u16; 256], lanes: &[u16; 256]) -> bool
+    ensures { λ r. ⌜ r ≡ allBelow (λ i. allBelow (λ x. leb (getD (now (counts .entry)) (i * 256 + x) 0) (getD (ifEq (bodyOf (kindAt i)) 1 (now (nodes .entry)) (now (lanes .entry))) x 0)) 256) (length kinds) ⌝ }
+{
+    let mut row = 0;
+    while row < BODIES.len() {
+        if kind_fits(counts, row, nodes, lanes) {
+            row += 1;
+        } else {
+            return false;
+        }
+    }
+    true
+}
+
+// "a count is above rounds"; past the node or link count it is 0.
+fn counts_fit(nodes: usize, links: usize, rounds: u16, counts: &[u16; 5120]) -> bool
+    requires { ⌜ (nodes ≤ 64) × (links ≤ 128) ⌝ }
+    ensures { λ r. ⌜ r ≡ countsFit nodes links rounds (now (counts .entry)) ⌝ }
+{
+    let of_nodes = limits(nodes, rounds);
+    let of_lanes = limits(links * 2, rounds);
+    rows_fit(counts, &of_nodes, &of_lanes)
+}
+
+fn wide(x: u8) -> u16
+    ensures { λ r. ⌜ r ≡ x ⌝ }
+{
+    x as u16
+}
+
+fn each_fits(lens: &[u8; 256], limits: &[u16; 256]) -> bool
+    ensures { λ r. ⌜ r ≡ allBelow (λ d. leb (getD (now (lens .entry)) d 0) (getD (now (limits .entry)) d 0)) 256 ⌝ }
+{
+    let mut faults = 0u16;
+    let mut d = 0;
+    while d < 256 {
+        faults = faults | excess(wide(lens[d]), limits[d]);
+        d += 1;
+    }
+    faults == 0
+}
+
+// "a queue is said to hold more than two"; past the link count it holds none.
+fn lengths_fit(links: usize, lens: &[u8; 256]) -> bool
+    requires { ⌜ links ≤ 128 ⌝ }
+    ensures { λ r. ⌜ r ≡ lengthsFit links (now (lens .entry)) ⌝ }
+{
+    let of_lanes = limits(links * 2, 2);
+    each_fits(lens, &of_lanes)
+}
+
+// What is wrong of the sort at place j of a queue of that length.
+fn sort_fault(len: u8, j: u8, sort: u8) -> u8
+    ensures { λ r. ⌜ eqb r 0 ≡ sortFits len j sort ⌝ }
+{
+    if j < len {
+        if sort == PACKET {
+            return 0;
+        }
+        if sort == ACK {
+            return 0;
+        }
+        return 1;
+    }
+    sort
+}
+
+fn queue_fault(len: u8, first: u8, second: u8) -> u8
+    ensures { λ r. ⌜ eqb r 0 ≡ both (sortFits len 0 first) (sortFits len 1 second) ⌝ }
+{
+    sort_fault(len, 0, first) | sort_fault(len, 1, second)
+}
+
+fn sorts_fit(lens: &[u8; 256], sorts: &[u8; 512]) -> bool
+    ensures { λ r. ⌜ r ≡ sortsFit (now (lens .entry)) (now (sorts .entry)) ⌝ }
+{
+    let mut faults = 0u8;
+    let mut d = 0;
+    while d < 256 {
+        let first = d * 2;
+        faults = faults | queue_fault(lens[d], sorts[first], sorts[first + 1]);
+        d += 1;
+    }
+    faults == 0
+}
+
+fn load_fault(sort: u8, load: u16) -> u16
+    ensures { λ r. ⌜ eqb r 0 ≡ loadFits sort load ⌝ }
+{
+    if sort == PACKET {
+        return 0;
+    }
+    load
+}
+
+fn loads_fit(sorts: &[u8; 512], loads: &[u16; 512]) -> bool
+    ensures { λ r. ⌜ r ≡ loadsFit (now (sorts .entry)) (now (loads .entry)) ⌝ }
+{
+    let mut faults = 0u16;
+    let mut e = 0;
+    while e < 512 {
+        faults = faults | load_fault(sorts[e], loads[e]);
+        e += 1;
+    }
+    faults == 0
+}
+
+// Of the first entries of a list, nothing stands past those in use.
+fn rest_fits(xs: &[u16], used: usize, n: usize) -> bool
+    requires { ⌜ (used ≤ n) × (n ≤ length (now xs)) ⌝ }
+    ensures { λ r. ⌜ r ≡ restFits used (now (xs .entry)) n ⌝ }
+{
+    let mut faults = 0u16;
+    let mut x = used;
+    while x < n {
+        faults = faults | xs[x];
+        x += 1;
+    }
+    faults == 0
+}
+
+// The arrays of a state, for a network of so many nodes, links and rounds.
+fn state_fits(
+    nodes: usize,
+    links: usize,
+    rounds: u16,
+    counts: &[u16; 5120],
+    lens: &[u8; 256],
+    sorts: &[u8; 512],
+    loads: &[u16; 512],
+    slots: &[u16; 512],
+    values: &[u16; 64],
+) -> bool
+    requires { ⌜ (nodes ≤ 64) × (links ≤ 128) ⌝ }
+    ensures { λ r. ⌜ r ≡ stateFits nodes links rounds (now (counts .entry)) (now (lens .entry)) (now (sorts .entry)) (now (loads .entry)) (now (slots .entry)) (now (values .entry)) ⌝ }
+{
+    if counts_fit(nodes, links, rounds, counts) {
+        if lengths_fit(links, lens) {
+            if sorts_fit(lens, sorts) {
+                if loads_fit(sorts, loads) {
+                    if rest_fits(slots, links * 4, 512) {
+                        return rest_fits(values, nodes, 64);
+                    }
+                    return false;
+                }
+                return false;
+            }
+            return false;
+        }
+        return false;
+    }
+    false
+}
+
+// Not 17: the network and the state are within their ranges.
+pub(crate) fn in_range(
+    net: Network,
+    counts: &[u16; 5120],
+    lens: &[u8; 256],
+    sorts: &[u8; 512],
+    loads: &[u16; 512],
+    slots: &[u16; 512],
+    values: &[u16; 64],
+) -> bool
+    ensures { λ r. ⌜ r ≡ inRange net (stateOf (now (counts .entry)) (now (lens .entry)) (now (sorts .entry)) (now (loads .entry)) (now (slots .entry)) (now (values .entry))) ⌝ }
+{
+    let nodes = net.nodes;
+    let links = net.links;
+    let rounds = net.rounds;
+    if net.valid() {
+        return state_fits(
+            nodes,
+            links,
+            rounds,
+            counts,
+            lens,
+            sorts,
+            loads,
+            slots,
+            values,
+        );
+    }
+    false
+}
+
+// "all counts and slots are 0, queues are empty"
+fn fresh(values: [u16; 64]) -> State
+    ensures { λ r. ⌜ r ≡ freshWith values ⌝ }
+{
+    let counts = [0u16; 5120];
+    let lens = [0u8; 256];
+    let sorts = [0u8; 512];
+    let loads = [0u16; 512];
+    let slots = [0u16; 512];
+    State {
+        counts,
+        lens,
+        sorts,
+        loads,
+        slots,
+        values,
+    }
+}
+
+impl State {
+    // The start state: "values are the plan's"; "a start state refused by 17 is all zeros".
+    pub fn start(net: Network) -> Done
+        ensures { λ r. ⌜ r ≡ startOf net ⌝ }
+    {
+        let starts = net.starts;
+        if net.valid() {
+            return Done {
+                answer: 0,
+                state: fresh(starts),
+            };
+        }
+        Done {
+            answer: 17,
+            state: fresh([0u16; 64]),
+        }
+    }
+}
