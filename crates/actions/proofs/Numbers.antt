@@ -4,19 +4,18 @@ use Prim.Native.Nat.{ℕ, _+_, _-_, _<_, _≤_}
 use native.Mathlib.Omega.{arith}
 use mathlib.Core.Path.{_≡_, refl, sym, _∙_, ap, subst}
 use mathlib.Core.Bool.{Bool, true}
-use mathlib.Core.List.{List, [], _∷_}
 use lib.Dec.{lit<, eqb, leb}
 use lib.ListN.{length, getD}
 use borrow.Author.Tests.{eqb-true, leb-true}
 use Rattle.laws.specs.Below.{allBelow}
 use Rattle.laws.specs.Choice.{ifB, both}
-use Rattle.laws.proofs.Below.{all-at}
+use Rattle.laws.proofs.Below.{all-at, list-at}
 use Rattle.actions.specs.declared.Kind.{Kind}
 use Rattle.actions.specs.declared.Kind.the-variants.{Output, PacketSent, PacketDelivered, AckSent, AckDelivered, Ok, SubtreeOkSent, SubtreeOkDelivered, ClusterOk, DownSent, DownDelivered, PreferredSent, PreferredDelivered, UpSent, UpDelivered, ClusterGo, SubtreeGoSent, SubtreeGoDelivered, Go, Input}
 use Rattle.actions.specs.declared.Place.{Place}
 use Rattle.actions.specs.Kinds.{numberOf, kinds, indexOf, kindAt}
 use Rattle.actions.specs.Table.{placeOf}
-use Rattle.actions.specs.Records.{namesOf, bodyOf}
+use Rattle.actions.specs.Records.{namesOf, bodyOf, bodyTable}
 
 -- a value by cases on a kind that is known: the shape of a `returns` need in a `match` on a kind
 pub told : {A B : Type 0} (f : A → B) {k j : A} {x : B} → k ≡ j → x ≡ f j → x ≡ f k
@@ -60,15 +59,10 @@ pub number-at : (i : ℕ) → i < length kinds → numberOf (kindAt i) ≡ 16 + 
 unfolding numberOf kindAt allBelow both ifB
 number-at i h = eqb-true (numberOf (kindAt i)) (16 + i) (all-at (λ j. eqb (numberOf (kindAt j)) (16 + j)) (length kinds) refl i h)
 
--- the code's constant table of body lengths
-abbrev pub bodies : List ℕ
-bodies = 1 ∷ 2 ∷ 2 ∷ 2 ∷ 2 ∷ 1 ∷ 1 ∷ 1 ∷ 1 ∷ 1 ∷ 1 ∷ 2 ∷ 2 ∷ 1 ∷ 1 ∷ 1 ∷ 1 ∷ 1 ∷ 1 ∷ 1 ∷ []
-
--- its rule: at each index it has the body length of the kind there
-pub body-at : (i : ℕ) → i < length kinds → getD bodies i 0 ≡ bodyOf (kindAt i)
-unfolding bodyOf namesOf placeOf kindAt allBelow both ifB
-body-at i h =
-    eqb-true (getD bodies i 0) (bodyOf (kindAt i)) (all-at (λ j. eqb (getD bodies j 0) (bodyOf (kindAt j))) (length kinds) refl i h)
+-- the table of body lengths has each kind's at the kind's index
+pub body-at : (i : ℕ) → i < length kinds → getD bodyTable i 0 ≡ bodyOf (kindAt i)
+unfolding bodyTable
+body-at i h = list-at (λ j. bodyOf (kindAt j)) (length kinds) i 0 h
 
 -- "one or two node numbers"
 names-one-or-two : (w : Place) → (0 < namesOf w) × (namesOf w < 3)

@@ -5,6 +5,7 @@ use mathlib.Core.Path.{_≡_}
 use mathlib.Core.List.{List}
 use lib.ListN.{length, getD}
 use Rattle.laws.specs.Choice.{ifLt}
+use Rattle.laws.specs.Below.{listBelow}
 use Rattle.actions.specs.declared.Kind.{Kind}
 use Rattle.actions.specs.declared.Place.{Place}
 use Rattle.actions.specs.declared.Record.{Record}
@@ -35,6 +36,22 @@ readAt s at =
     ifLt at (length s)
     (ifLt (getD s at 0) 16 Unknown
     (ifLt (getD s at 0 - 16) (length kinds) (actAt s at (kindAt (getD s at 0 - 16))) Unknown))
+    Short
+
+-- the table of body lengths, "indexed by kind minus 16"
+unfoldable pub bodyTable : List ℕ
+bodyTable = listBelow (λ i. bodyOf (kindAt i)) (length kinds)
+
+-- the same by any table of body lengths; a body has one byte at least
+unfoldable pub actBy : ℕ → List ℕ → ℕ → Kind → Record
+actBy body s at k =
+    ifLt (at + 1) (length s) (ifLt (at + body) (length s) (Act k (getD s (at + 1) 0) (getD s (at + body) 0) (body + 1)) Short) Short
+
+unfoldable pub readBy : List ℕ → List ℕ → ℕ → Record
+readBy bodies s at =
+    ifLt at (length s)
+    (ifLt (getD s at 0) 16 Unknown
+    (ifLt (getD s at 0 - 16) (length kinds) (actBy (getD bodies (getD s at 0 - 16) 0) s at (kindAt (getD s at 0 - 16))) Unknown))
     Short
 
 -- the same for people: what it is for the bytes to hold an action of kind k, width bytes long, at a place

@@ -3,9 +3,9 @@
 ghost use mathlib.Core.Path.{_≡_};
 ghost use Prim.Native.Nat.{_<_, _*_};
 ghost use lib.ListN.{length};
-ghost use Rattle.actions.specs.Kinds.{numberOf, kinds, kindAt, indexOf, cellOf};
+ghost use Rattle.actions.specs.Kinds.{numberOf, kinds, indexOf, cellOf};
 ghost use Rattle.actions.specs.Table.{placeOf, ownOf, knowsBy, mayGoBy, needOf, everyOf, doesOf};
-ghost use Rattle.actions.specs.Records.{bodyOf, readAt};
+ghost use Rattle.actions.specs.Records.{bodyTable, readBy};
 
 // In document 01's order and words.
 pub enum Kind {
@@ -32,9 +32,9 @@ pub enum Kind {
 }
 
 // The number of the first kind: the tables are indexed by kind minus this.
-pub const FIRST: u8 = 16;
+const FIRST: u8 = 16;
 
-pub const KINDS: [Kind; 20] = [
+const KINDS: [Kind; 20] = [
     Kind::Output,
     Kind::PacketSent,
     Kind::PacketDelivered,
@@ -58,7 +58,7 @@ pub const KINDS: [Kind; 20] = [
 ];
 
 // "twenty action kinds with the body length of each fixed: one or two node numbers"
-pub const BODIES: [u8; 20] = [1, 2, 2, 2, 2, 1, 1, 1, 1, 1, 1, 2, 2, 1, 1, 1, 1, 1, 1, 1];
+const BODIES: [u8; 20] = [1, 2, 2, 2, 2, 1, 1, 1, 1, 1, 1, 2, 2, 1, 1, 1, 1, 1, 1, 1];
 
 pub fn number(kind: Kind) -> u8
     ensures { λ r. ⌜ r ≡ numberOf kind ⌝ }
@@ -298,18 +298,23 @@ pub enum Record {
     },
 }
 
-// The body's length of the kind at an index of the tables.
-fn body_at(i: usize) -> usize
-    requires { ⌜ i < length kinds ⌝ }
-    ensures is { λ r. ⌜ r ≡ bodyOf (kindAt i) ⌝ }
-    ensures named { λ r. ⌜ (0 < r) × (r < 3) ⌝ }
+// The table, for a reader that goes through many records.
+pub fn bodies() -> [u8; 20]
+    ensures { λ r. ⌜ r ≡ bodyTable ⌝ }
 {
-    BODIES[i] as usize
+    BODIES
 }
 
-// The record at a place of the bytes. Where its body names one node, q is p.
-pub fn read(bytes: &[u8], at: usize) -> Record
-    ensures { λ r. ⌜ r ≡ readAt (now (bytes .entry)) at ⌝ }
+fn wide(x: u8) -> usize
+    ensures { λ r. ⌜ (r ≡ x) × (r < 256) ⌝ }
+{
+    x as usize
+}
+
+// The record at a place of the bytes, by a table of body lengths indexed by kind minus 16. A body names a node at least. Where it names one, q
+// is p.
+pub fn read(bodies: &[u8; 20], bytes: &[u8], at: usize) -> Record
+    ensures { λ r. ⌜ r ≡ readBy (now (bodies .entry)) (now (bytes .entry)) at ⌝ }
 {
     if bytes.len() <= at {
         return Record::Short;
@@ -322,15 +327,19 @@ pub fn read(bytes: &[u8], at: usize) -> Record
     if 20 <= i {
         return Record::Unknown;
     }
-    let body = body_at(i);
+    let body = wide(bodies[i]);
+    let first = at + 1;
     let last = at + body;
+    if bytes.len() <= first {
+        return Record::Short;
+    }
     if bytes.len() <= last {
         return Record::Short;
     }
     let kind = KINDS[i];
     Record::Act {
         kind,
-        p: bytes[at + 1],
+        p: bytes[first],
         q: bytes[last],
         width: body + 1,
     }

@@ -22,40 +22,37 @@ use Rattle.synchronizer.specs.Wires.{joined, lanesOf, laneIn}
 use Rattle.guarantees.specs.Reading.{linkOf, joins, directionOf}
 use Rattle.guarantees.proofs.Links.{joined-ends, joined-below, joins-of, nodes-below, link-is}
 
--- which of its link's two directions leads from p to q: 0 from the lower end, 1 from the upper
-abbrev side : ℕ → ℕ → ℕ
-side p q = ifLt p q 0 1
+-- ---- the two directions of a link
 
-up : (p q : ℕ) → p < q → side p q ≡ 0
-up p q = ifLt-yes {A = ℕ} p q 0 1
+upwards : (net : Network) (p q : ℕ) → p < q → directionOf net p q ≡ linkOf net p q * 2
+unfolding directionOf
+upwards net p q h = omega (arith, ifLt-yes {A = ℕ} p q 0 1 h)
 
-down : (p q : ℕ) → q ≤ p → side p q ≡ 1
-down p q = ifLt-no {A = ℕ} p q 0 1
+downwards : (net : Network) (p q : ℕ) → q ≤ p → directionOf net p q ≡ linkOf net p q * 2 + 1
+unfolding directionOf
+downwards net p q h = omega (arith, ifLt-no {A = ℕ} p q 0 1 h)
 
-side-small : (p q : ℕ) → side p q < 2
-side-small p q = lt-elim (λ x. x < 2) p q 0 1 (λ _. omega arith) (λ _. omega arith)
+one-of-two : (net : Network) (p q : ℕ) → (linkOf net p q * 2 ≤ directionOf net p q) × (directionOf net p q < linkOf net p q * 2 + 2)
+one-of-two net p q = at (decLt p q)
+  where
+    at : Dec (p < q) → (linkOf net p q * 2 ≤ directionOf net p q) × (directionOf net p q < linkOf net p q * 2 + 2)
+    at (yes h) = omega (arith, upwards net p q h)
+    at (no h) = omega (arith, downwards net p q (omega arith))
 
 module _ (net : Network) (v : validNetwork net ≡ true) where
-  -- ---- every direction has its own pair
-
   pub direction-below : (p q : ℕ) → joins net p q ≡ true → directionOf net p q < net .links * 2
-  unfolding directionOf
-  direction-below p q j = omega (arith, side-small p q, joined-below net v p q j)
+  direction-below p q j = omega (arith, one-of-two net p q, joined-below net v p q j)
 
   pub direction-in-row : (p q : ℕ) → joins net p q ≡ true → directionOf net p q < 256
   direction-in-row p q j = omega (arith, direction-below p q j, valid-limits net v .at-most-128-links)
 
   -- two ordered pairs with one direction are one pair
   pub one-direction : (p q p′ q′ : ℕ) → joins net p q ≡ true → joins net p′ q′ ≡ true → directionOf net p q ≡ directionOf net p′ q′ → (p ≡ p′) × (q ≡ q′)
-  unfolding directionOf
   one-direction p q p′ q′ j j′ e =
       at (joined-ends net v p q j) (subst (λ l. Ends (net .lowers) (net .uppers) l p′ q′) (sym link) (joined-ends net v p′ q′ j′))
     where
       link : linkOf net p q ≡ linkOf net p′ q′
-      link = omega (arith, e, side-small p q, side-small p′ q′)
-
-      sides : side p q ≡ side p′ q′
-      sides = omega (arith, e, side-small p q, side-small p′ q′)
+      link = omega (arith, e, one-of-two net p q, one-of-two net p′ q′)
 
       rise : getD (net .lowers) (linkOf net p q) 0 < getD (net .uppers) (linkOf net p q) 0
       rise = valid-order net v .ends-rise (linkOf net p q) (joined-below net v p q j)
@@ -63,12 +60,13 @@ module _ (net : Network) (v : validNetwork net ≡ true) where
       at : Ends (net .lowers) (net .uppers) (linkOf net p q) p q → Ends (net .lowers) (net .uppers) (linkOf net p q) p′ q′ → (p ≡ p′) × (q ≡ q′)
       at (rising a b) (rising c d) = (omega arith, omega arith)
       at (falling a b) (falling c d) = (omega arith, omega arith)
-      at (rising a b) (falling c d) = absurd (omega (arith, sides, up p q (omega (arith, rise)), down p′ q′ (omega (arith, rise))))
-      at (falling a b) (rising c d) = absurd (omega (arith, sides, down p q (omega (arith, rise)), up p′ q′ (omega (arith, rise))))
+      at (rising a b) (falling c d) =
+          absurd (omega (arith, e, link, upwards net p q (omega (arith, rise)), downwards net p′ q′ (omega (arith, rise))))
+      at (falling a b) (rising c d) =
+          absurd (omega (arith, e, link, downwards net p q (omega (arith, rise)), upwards net p′ q′ (omega (arith, rise))))
 
   -- every number below twice the links is the direction of some pair
   pub direction-of : (d : ℕ) → d < net .links * 2 → (p : ℕ) × (q : ℕ) × (joins net p q ≡ true) × (directionOf net p q ≡ d)
-  unfolding directionOf
   direction-of d h = at (ℕ-discrete (d % 2) 0)
     where
       l : ℕ
@@ -80,15 +78,16 @@ module _ (net : Network) (v : validNetwork net ≡ true) where
       rise : getD (net .lowers) l 0 < getD (net .uppers) l 0
       rise = valid-order net v .ends-rise l in-list
 
-      found : (p q : ℕ) → Ends (net .lowers) (net .uppers) l p q → side p q ≡ d % 2 → (p : ℕ) × (q : ℕ) × (joins net p q ≡ true) × (linkOf net p q * 2 + side p q ≡ d)
+      found : (p q : ℕ) → Ends (net .lowers) (net .uppers) l p q → directionOf net p q ≡ linkOf net p q * 2 + d % 2 → (p : ℕ) × (q : ℕ) × (joins net p q ≡ true) × (directionOf net p q ≡ d)
       found p q ends which = (p, q, joins-of net v l p q in-list ends, omega (arith, link-is net v l p q in-list ends))
 
-      at : Dec (d % 2 ≡ 0) → (p : ℕ) × (q : ℕ) × (joins net p q ≡ true) × (linkOf net p q * 2 + side p q ≡ d)
+      at : Dec (d % 2 ≡ 0) → (p : ℕ) × (q : ℕ) × (joins net p q ≡ true) × (directionOf net p q ≡ d)
       at (yes e) =
-          found (getD (net .lowers) l 0) (getD (net .uppers) l 0) (rising refl refl) (up (getD (net .lowers) l 0) (getD (net .uppers) l 0) rise ∙ sym e)
+          found (getD (net .lowers) l 0) (getD (net .uppers) l 0) (rising refl refl)
+          (omega (arith, upwards net (getD (net .lowers) l 0) (getD (net .uppers) l 0) rise))
       at (no o) =
           found (getD (net .uppers) l 0) (getD (net .lowers) l 0) (falling refl refl)
-          (omega (arith, down (getD (net .uppers) l 0) (getD (net .lowers) l 0) (omega (arith, rise))))
+          (omega (arith, downwards net (getD (net .uppers) l 0) (getD (net .lowers) l 0) (omega (arith, rise))))
 
   -- ---- the table of directions
 
@@ -122,7 +121,7 @@ module _ (net : Network) (v : validNetwork net ≡ true) where
         ∙ getD-set-other t (a * 64 + b) (p * 64 + q) (l * 2) 0 (λ e. up (omega arith))
 
   table-has : (n : ℕ) → n ≤ net .links → (p q : ℕ) → joins net p q ≡ true → linkOf net p q < n → laneIn (tableOf n) p q ≡ directionOf net p q
-  unfolding tableOf lanesOf foldBelow directionOf
+  unfolding tableOf lanesOf foldBelow
   table-has zero b p q j h = absurd (not-suc-le-zero h)
   table-has (suc n) b p q j h = at (decLt (linkOf net p q) n) (λ l. table-has n (omega arith) p q j l)
     where
@@ -135,16 +134,16 @@ module _ (net : Network) (v : validNetwork net ≡ true) where
       small : getD (net .uppers) n 0 < 64
       small = omega (arith, valid-ranges net v .upper-below n b, valid-limits net v .at-most-64-nodes)
 
-      mine : linkOf net p q ≡ n → Ends (net .lowers) (net .uppers) n p q → laneIn (joined before (getD (net .lowers) n 0) (getD (net .uppers) n 0) n) p q ≡ linkOf net p q * 2 + side p q
+      mine : linkOf net p q ≡ n → Ends (net .lowers) (net .uppers) n p q → laneIn (joined before (getD (net .lowers) n 0) (getD (net .uppers) n 0) n) p q ≡ directionOf net p q
       mine e (rising x y) =
-          subst (λ (z : ℕ × ℕ). laneIn (joined before (getD (net .lowers) n 0) (getD (net .uppers) n 0) n) (z .0) (z .1) ≡ linkOf net p q * 2 + side p q) (λ i. (x i, y i))
-          (filled-up before (length-table n) (getD (net .lowers) n 0) (getD (net .uppers) n 0) n rise small ∙ omega (arith, e, up p q (omega (arith, rise))))
+          subst (λ (z : ℕ × ℕ). laneIn (joined before (getD (net .lowers) n 0) (getD (net .uppers) n 0) n) (z .0) (z .1) ≡ directionOf net p q) (λ i. (x i, y i))
+          (filled-up before (length-table n) (getD (net .lowers) n 0) (getD (net .uppers) n 0) n rise small ∙ omega (arith, e, upwards net p q (omega (arith, rise))))
       mine e (falling x y) =
-          subst (λ (z : ℕ × ℕ). laneIn (joined before (getD (net .lowers) n 0) (getD (net .uppers) n 0) n) (z .0) (z .1) ≡ linkOf net p q * 2 + side p q) (λ i. (y i, x i))
-          (filled-down before (length-table n) (getD (net .lowers) n 0) (getD (net .uppers) n 0) n rise small ∙ omega (arith, e, down p q (omega (arith, rise))))
+          subst (λ (z : ℕ × ℕ). laneIn (joined before (getD (net .lowers) n 0) (getD (net .uppers) n 0) n) (z .0) (z .1) ≡ directionOf net p q) (λ i. (y i, x i))
+          (filled-down before (length-table n) (getD (net .lowers) n 0) (getD (net .uppers) n 0) n rise small ∙ omega (arith, e, downwards net p q (omega (arith, rise))))
 
-      at : Dec (linkOf net p q < n) → (linkOf net p q < n → laneIn before p q ≡ linkOf net p q * 2 + side p q)
-          → laneIn (joined before (getD (net .lowers) n 0) (getD (net .uppers) n 0) n) p q ≡ linkOf net p q * 2 + side p q
+      at : Dec (linkOf net p q < n) → (linkOf net p q < n → laneIn before p q ≡ directionOf net p q)
+          → laneIn (joined before (getD (net .lowers) n 0) (getD (net .uppers) n 0) n) p q ≡ directionOf net p q
       at (yes l) r =
           left-alone before (length-table n) (getD (net .lowers) n 0) (getD (net .uppers) n 0) n rise small p q
           (omega (arith, nodes-below net v p q j, valid-limits net v .at-most-64-nodes))

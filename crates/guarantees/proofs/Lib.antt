@@ -1,3 +1,4 @@
+pub mod After
 pub mod Answers
 pub mod Bridge
 pub mod Choices

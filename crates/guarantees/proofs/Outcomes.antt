@@ -29,7 +29,7 @@ use Rattle.guarantees.specs.Outcome as Outcome
 use Rattle.guarantees.specs.Outcome.{Judged, MethodOutcome, Names, UnknownAt, CutAt, ActOutcome, Taken, Stopped, Listed, ListOutcome}
 use Rattle.guarantees.proofs.Records as Records
 use Rattle.guarantees.proofs.Records.{Found, found}
-use Rattle.guarantees.proofs.Bridge.{answer-is, after-is}
+use Rattle.guarantees.proofs.After.{answer-is, after-is}
 
 -- what 17 lets pass
 pub in-range : (net : Network) (s : State) → inRange net s ≡ true → (validNetwork net ≡ true) × (validState net s ≡ true)

@@ -1,7 +1,7 @@
 -- An accepted plan's network, read as the automaton's, is what demand 3 asks of a network: each part is the plan check that document 01 makes.
 -- Assumes nothing.
-use Prim.Native.Nat.{ℕ, zero, suc, _<_}
-use mathlib.Core.Path.{_≡_, refl, sym, _∙_, ap, subst}
+use Prim.Native.Nat.{ℕ, zero, suc}
+use mathlib.Core.Path.{_≡_, refl, sym, _∙_, subst}
 use mathlib.Core.Bool.{true}
 use mathlib.Core.List.{List}
 use lib.ListN.{getD}
@@ -13,7 +13,7 @@ use Rattle.automaton.specs.Accepted as automaton
 use Rattle.plan.specs.Accepted.{Accepted}
 use Rattle.plan.proofs.Valid.{accepted-is-valid}
 use Rattle.plan.proofs.Consequences.{PreferredAcross, parent-in-range, root-is-own-parent, preferred-across, preferred-symmetric}
-use Rattle.guarantees.specs.Reading.{joins, prefers, netOf}
+use Rattle.guarantees.specs.Reading.{netOf}
 use Rattle.guarantees.proofs.Links.{nodes-below, joins-back, neighbour-is, preferred-is}
 
 -- the two walks along the parents are one

@@ -27,7 +27,7 @@ use Rattle.automaton.specs.Lockstep.{lockstep}
 use Rattle.guarantees.specs.Reading.{joins, directionOf, netOf, seated, countOf, waitingIn, read}
 use Rattle.guarantees.proofs.Links.{nodes-below, neighbour-is, neighbours-are}
 use Rattle.guarantees.proofs.Seats.{counterOf}
-use Rattle.guarantees.proofs.Bridge.{same-global}
+use Rattle.guarantees.proofs.After.{same-global}
 
 -- a test with 0 on both sides
 none : {A : Type 0} (x z : A) → x ≡ z → (t : Bool) → ifB t x z ≡ z

@@ -1,4 +1,5 @@
 pub mod Among
+pub mod Bridge
 pub mod Outcome
 pub mod Reading
 pub mod Steps

@@ -1,5 +1,6 @@
 -- What the entry points come to, in the automaton's words: an action by its method, one action from bytes, a list of actions. Nothing here
--- speaks of an array but through the reading; `proofs/Outcomes.antt` shows that the code's definitions have these outcomes and no others.
+-- speaks of an array but through the reading. `proofs/Outcomes.antt` shows that the code's definitions have these outcomes, `proofs/Only.antt` that
+-- they have no others.
 -- Assumes nothing.
 use Prim.Native.Nat.{ℕ, _+_, _<_, _≤_}
 use mathlib.Core.Path.{_≡_}

@@ -1,12 +1,17 @@
+pub mod Answers
 pub mod Directions
+pub mod Effects
 pub mod Entries
 pub mod Faults
 pub mod Heads
 pub mod Keeps
 pub mod Limits
+pub mod Ranges
 pub mod Rows
 pub mod States
 pub mod Taken
+pub mod Taking
 pub mod Trials
+pub mod Turns
 pub mod Waiting
 pub mod Walks

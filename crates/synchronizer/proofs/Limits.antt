@@ -12,9 +12,9 @@ use Rattle.laws.specs.Choice.{ifLt, ifEq}
 use Rattle.laws.specs.Below.{allBelow, listBelow, overBelow}
 use Rattle.laws.proofs.Choice.{ifLt-yes, ifLt-no, ifEq-yes, ifEq-no, eq-elim}
 use Rattle.laws.proofs.Below.{all-same, length-over, over-above, over-below, list-is, list-at}
-use Rattle.actions.specs.Kinds.{kinds, indexOf, kindAt, cellOf}
-use Rattle.actions.specs.Records.{bodyOf}
-use Rattle.actions.proofs.Numbers.{number-at}
+use Rattle.actions.specs.Kinds.{kinds, indexOf, cellOf}
+use Rattle.actions.specs.Records.{bodyTable}
+use Rattle.actions.proofs.Numbers.{number-at, body-at}
 use Rattle.synchronizer.specs.Valid.{usedBy, entryFits, rowFits, countsFit, lengthsFit}
 use Rattle.synchronizer.proofs.Entries.{repeated-at}
 
@@ -48,10 +48,10 @@ module _ (nodes links rounds : ℕ) where
       (λ e. limit-at nodes rounds x h ∙ ap (λ u. ifLt x u rounds 0) (sym (ifEq-yes n 1 nodes (links * 2) e)))
       (λ e. limit-at (links * 2) rounds x h ∙ ap (λ u. ifLt x u rounds 0) (sym (ifEq-no n 1 nodes (links * 2) e)))
 
-  pub rows-are-counts : (counts : List ℕ) → allBelow (λ i. allBelow (λ x. leb (getD counts (i * 256 + x) 0) (getD (ifEq (bodyOf (kindAt i)) 1 (limitsOf nodes rounds) (limitsOf (links * 2) rounds)) x 0)) 256) (length kinds) ≡ countsFit nodes links rounds counts
+  pub rows-are-counts : (counts : List ℕ) → allBelow (λ i. allBelow (λ x. leb (getD counts (i * 256 + x) 0) (getD (ifEq (getD bodyTable i 0) 1 (limitsOf nodes rounds) (limitsOf (links * 2) rounds)) x 0)) 256) (length kinds) ≡ countsFit nodes links rounds counts
   unfolding countsFit rowFits entryFits usedBy cellOf indexOf
   rows-are-counts counts =
-      all-same _ _ (length kinds) (λ i h. all-same _ _ 256 (λ x l. ap₂ (λ (c m : ℕ). leb (getD counts c 0) m) (omega (arith, number-at i h)) (limit-of (bodyOf (kindAt i)) x l)))
+      all-same _ _ (length kinds) (λ i h. all-same _ _ 256 (λ x l. ap₂ (λ (c m : ℕ). leb (getD counts c 0) m) (omega (arith, number-at i h)) (limit-of (getD bodyTable i 0) x l ∙ ap (λ n. ifLt x (ifEq n 1 nodes (links * 2)) rounds 0) (body-at i h))))
 
 pub lengths-are-entries : (links : ℕ) (lens : List ℕ) → allBelow (λ d. leb (getD lens d 0) (getD (limitsOf (links * 2) 2) d 0)) 256 ≡ lengthsFit links lens
 unfolding lengthsFit entryFits

@@ -8,10 +8,11 @@ use mathlib.Core.List.{List}
 use Rattle.laws.specs.Choice.{ifB, ifLt}
 use Rattle.laws.proofs.Choice.{ifB-yes, ifB-no, ifLt-yes, ifLt-no}
 use Rattle.actions.specs.declared.Kind.{Kind}
+use Rattle.actions.specs.declared.Counter.{Counter}
 use Rattle.actions.specs.Kinds.{count}
 use Rattle.synchronizer.specs.declared.test.Shown.{Shown}
 use Rattle.synchronizer.specs.Answer.{countIn}
-use Rattle.synchronizer.specs.Shown.{plainAnswer, Shows}
+use Rattle.synchronizer.specs.Shown.{plainAnswer, Shows, RowShows}
 
 module _ (counts : List ℕ) (k : Kind) (x : ℕ) (r : Shown) where
   -- a refusal shows no more than its number
@@ -43,3 +44,7 @@ module _ (counts : List ℕ) (k : Kind) (x : ℕ) (r : Shown) where
           is = e ∙ sym (ifB-yes stands (ifLt n has rest 16) 14 t ∙ ifLt-yes n has rest 16 h);
           taken = λ _. (s, b);
         }
+
+-- the row of an action whose kind is known
+pub row-as : (counts : List ℕ) (k j : Kind) (x : ℕ) (stands : Bool) (need : Counter) (rest : ℕ) (r : Shown) → k ≡ j → RowShows counts k x stands need rest r → RowShows counts j x stands need rest r
+row-as counts k j x stands need rest r e h = subst (λ i. RowShows counts i x stands need rest r) e h

@@ -10,7 +10,8 @@ use Rattle.actions.specs.declared.Counter.{Counter}
 use Rattle.actions.specs.Kinds.{count}
 use Rattle.synchronizer.specs.declared.State.{State}
 use Rattle.synchronizer.specs.declared.test.Shown.{Shown}
-use Rattle.synchronizer.specs.Answer.{countIn}
+use Rattle.synchronizer.specs.Wires.{Wires}
+use Rattle.synchronizer.specs.Answer.{countIn, ownIn, answerIn}
 use Rattle.synchronizer.specs.After.{stateOf}
 
 -- 14 where the nodes do not stand as the row asks; 16 where the count needed is short; else the rest of the row decides
@@ -30,3 +31,7 @@ RowShows counts k x stands need rest =
 -- what the test looks at of a state: no slot and no value
 abbrev pub seen : List ℕ → List ℕ → List ℕ → List ℕ → State
 seen counts lens sorts loads = stateOf counts lens sorts loads [] []
+
+-- the test shows the answer to an action, and its own count
+abbrev pub TestShows : Wires → State → Kind → ℕ → ℕ → Shown → Type 0
+TestShows w s k p q = Shows (s .counts) k (ownIn w k p q .1) (answerIn w s k p q)

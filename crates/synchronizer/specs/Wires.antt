@@ -2,7 +2,7 @@
 -- Assumes nothing.
 use Prim.Native.Nat.{ℕ, _+_, _*_, _<_}
 use mathlib.Core.Bool.{Bool}
-use mathlib.Core.List.{List}
+use mathlib.Core.List.{List, []}
 use lib.Dec.{eqb}
 use lib.ListN.{getD, set, replicate}
 use Rattle.laws.specs.Below.{foldBelow}
@@ -18,6 +18,22 @@ pub record Wires : Type 0 where
   pub neighbours : List ℕ
   pub children : List ℕ
   pub preferred : List ℕ
+
+abbrev pub wires : ℕ → ℕ → List ℕ → List ℕ → List ℕ → List ℕ → List ℕ → Wires
+wires nodes rounds parents lanes neighbours children preferred =
+    record {
+      nodes = nodes;
+      rounds = rounds;
+      parents = parents;
+      lanes = lanes;
+      neighbours = neighbours;
+      children = children;
+      preferred = preferred;
+    }
+
+-- the wires of an effect: it looks at the directions and the neighbours alone
+abbrev pub hearing : List ℕ → List ℕ → Wires
+hearing lanes neighbours = wires 0 0 [] lanes neighbours [] []
 
 -- the table of directions with link l from a to b: "every direction of every link" has a number, 2 l from a to b and 2 l + 1 back
 unfoldable pub joined : List ℕ → ℕ → ℕ → ℕ → List ℕ

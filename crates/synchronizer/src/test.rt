@@ -14,7 +14,7 @@ use actions::may_go;
 use nodeset::NodeSet;
 ghost use mathlib.Core.Path.{_≡_};
 ghost use mathlib.Core.Bool.{true, not};
-ghost use Prim.Native.Nat.{_<_};
+ghost use Prim.Native.Nat.{_<_, _≤_};
 ghost use lib.Dec.{ltb};
 ghost use lib.ListN.{getD};
 ghost use Rattle.laws.specs.Choice.{ifB, ifLt, both};
@@ -22,9 +22,9 @@ ghost use Rattle.nodeset.specs.Marks.{member};
 ghost use Rattle.actions.specs.Kinds.{count};
 ghost use Rattle.actions.specs.Table.{knowsBy, mayGoBy};
 ghost use Rattle.actions.specs.declared.Kind.the-variants.{Output, PacketSent, PacketDelivered, AckSent, AckDelivered, Ok, SubtreeOkSent, SubtreeOkDelivered, ClusterOk, DownSent, PreferredSent, PreferredDelivered, UpSent, UpDelivered, ClusterGo, SubtreeGoSent, Go, Input};
-ghost use Rattle.synchronizer.specs.Wires.{Below64, laneIn, isRoot};
+ghost use Rattle.synchronizer.specs.Wires.{Below64, wires, laneIn, isRoot};
 ghost use Rattle.synchronizer.specs.Answer.{countIn, countAnswer, childrenHave, sendersHave, headOf, packetFirst, ackFirst, roomAnswer};
-ghost use Rattle.synchronizer.specs.Shown.{Shows, RowShows};
+ghost use Rattle.synchronizer.specs.Shown.{Shows, RowShows, TestShows, seen};
 
 // An answer; and where it is 0, at which node or direction the action's own count stands.
 pub struct Shown {
@@ -464,4 +464,56 @@ fn input(counts: &[u16; 5120], p: u8) -> Shown
     ensures { λ r. ⌜ RowShows (now (counts .entry)) Input p true (count Go p) 0 r ⌝ }
 {
     node(counts, Kind::Input, p, Counter(Kind::Go, p), 0)
+}
+
+// Document 01's table, row by row: the answer to an action, and where it is 0 its own count.
+pub(crate) fn test(
+    nodes: usize,
+    rounds: u16,
+    parents: &[u8; 64],
+    lanes: &[u8; 4096],
+    neighbours: &[u64; 64],
+    children: &[u64; 64],
+    preferred: &[u64; 64],
+    counts: &[u16; 5120],
+    lens: &[u8; 256],
+    sorts: &[u8; 512],
+    loads: &[u16; 512],
+    kind: Kind,
+    p: u8,
+    q: u8,
+) -> Shown
+    requires { ⌜ (nodes ≤ 64) × Below64 (now parents) nodes ⌝ }
+    ensures { λ r. ⌜ TestShows (wires nodes rounds (now (parents .entry)) (now (lanes .entry)) (now (neighbours .entry)) (now (children .entry)) (now (preferred .entry))) (seen (now (counts .entry)) (now (lens .entry)) (now (sorts .entry)) (now (loads .entry))) kind p q r ⌝ }
+{
+    if nodes <= p as usize {
+        return Shown { answer: 13, sub: 0 };
+    }
+    if nodes <= q as usize {
+        return Shown { answer: 13, sub: 0 };
+    }
+    match kind {
+        Kind::Output => output(counts, rounds, p),
+        Kind::PacketSent => packet_sent(neighbours, lanes, counts, lens, p, q),
+        Kind::PacketDelivered => {
+            packet_delivered(neighbours, lanes, counts, lens, sorts, loads, p, q)
+        }
+        Kind::AckSent => ack_sent(neighbours, lanes, counts, lens, p, q),
+        Kind::AckDelivered => ack_delivered(neighbours, lanes, counts, lens, sorts, loads, p, q),
+        Kind::Ok => ok(neighbours, lanes, counts, p),
+        Kind::SubtreeOkSent => subtree_ok_sent(parents, children, counts, p),
+        Kind::SubtreeOkDelivered => delivered(parents, counts, kind, Kind::SubtreeOkSent, p),
+        Kind::ClusterOk => cluster_ok(parents, children, counts, p),
+        Kind::DownSent => down_sent(parents, counts, p),
+        Kind::DownDelivered => delivered(parents, counts, kind, Kind::DownSent, p),
+        Kind::PreferredSent => preferred_sent(preferred, lanes, parents, counts, p, q),
+        Kind::PreferredDelivered => preferred_delivered(preferred, lanes, counts, p, q),
+        Kind::UpSent => up_sent(parents, lanes, children, preferred, counts, p),
+        Kind::UpDelivered => delivered(parents, counts, kind, Kind::UpSent, p),
+        Kind::ClusterGo => cluster_go(parents, lanes, children, preferred, counts, p),
+        Kind::SubtreeGoSent => subtree_go_sent(parents, counts, p),
+        Kind::SubtreeGoDelivered => delivered(parents, counts, kind, Kind::SubtreeGoSent, p),
+        Kind::Go => go(parents, counts, p),
+        Kind::Input => input(counts, p),
+    }
 }

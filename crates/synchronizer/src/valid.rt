@@ -6,8 +6,7 @@ ghost use lib.Dec.{leb, eqb};
 ghost use lib.ListN.{length, getD};
 ghost use Rattle.laws.specs.Choice.{ifLt, ifEq, both};
 ghost use Rattle.laws.specs.Below.{allBelow, listBelow};
-ghost use Rattle.actions.specs.Kinds.{kinds, kindAt};
-ghost use Rattle.actions.specs.Records.{bodyOf};
+ghost use Rattle.actions.specs.Kinds.{kinds};
 ghost use Rattle.synchronizer.specs.After.{stateOf};
 ghost use Rattle.synchronizer.specs.Valid.{countsFit, lengthsFit, sortFits, sortsFit, loadFits, loadsFit, restFits, stateFits};
 ghost use Rattle.synchronizer.specs.Entry.{inRange};
@@ -16,7 +15,6 @@ use crate::Done;
 use crate::State;
 use crate::queue::ACK;
 use crate::queue::PACKET;
-use actions::BODIES;
 use network::Network;
 
 // By how much n is above the most that is allowed.
@@ -58,22 +56,28 @@ fn row_fits(counts: &[u16; 5120], row: usize, limits: &[u16; 256]) -> bool
 }
 
 // A kind with one node number in its body has a count for each node, one with two a count for each direction.
-fn kind_fits(counts: &[u16; 5120], row: usize, nodes: &[u16; 256], lanes: &[u16; 256]) -> bool
+fn kind_fits(
+    bodies: &[u8; 20],
+    counts: &[u16; 5120],
+    row: usize,
+    nodes: &[u16; 256],
+    lanes: &[u16; 256],
+) -> bool
     requires { ⌜ row < length kinds ⌝ }
-    ensures { λ r. ⌜ r ≡ allBelow (λ x. leb (getD (now (counts .entry)) (row * 256 + x) 0) (getD (ifEq (bodyOf (kindAt row)) 1 (now (nodes .entry)) (now (lanes .entry))) x 0)) 256 ⌝ }
+    ensures { λ r. ⌜ r ≡ allBelow (λ x. leb (getD (now (counts .entry)) (row * 256 + x) 0) (getD (ifEq (getD (now (bodies .entry)) row 0) 1 (now (nodes .entry)) (now (lanes .entry))) x 0)) 256 ⌝ }
 {
-    if BODIES[row] == 1 {
+    if bodies[row] == 1 {
         return row_fits(counts, row, nodes);
     }
     row_fits(counts, row, lanes)
 }
 
-fn rows_fit(counts: &[u16; 5120], nodes: &[u16; 256], lanes: &[u16; 256]) -> bool
-    ensures { λ r. ⌜ r ≡ allBelow (λ i. allBelow (λ x. leb (getD (now (counts .entry)) (i * 256 + x) 0) (getD (ifEq (bodyOf (kindAt i)) 1 (now (nodes .entry)) (now (lanes .entry))) x 0)) 256) (length kinds) ⌝ }
+fn rows_fit(bodies: &[u8; 20], counts: &[u16; 5120], nodes: &[u16; 256], lanes: &[u16; 256]) -> bool
+    ensures { λ r. ⌜ r ≡ allBelow (λ i. allBelow (λ x. leb (getD (now (counts .entry)) (i * 256 + x) 0) (getD (ifEq (getD (now (bodies .entry)) i 0) 1 (now (nodes .entry)) (now (lanes .entry))) x 0)) 256) (length kinds) ⌝ }
 {
     let mut row = 0;
-    while row < BODIES.len() {
-        if kind_fits(counts, row, nodes, lanes) {
+    while row < bodies.len() {
+        if kind_fits(bodies, counts, row, nodes, lanes) {
             row += 1;
         } else {
             return false;
@@ -87,9 +91,10 @@ fn counts_fit(nodes: usize, links: usize, rounds: u16, counts: &[u16; 5120]) -> 
     requires { ⌜ (nodes ≤ 64) × (links ≤ 128) ⌝ }
     ensures { λ r. ⌜ r ≡ countsFit nodes links rounds (now (counts .entry)) ⌝ }
 {
+    let bodies = actions::bodies();
     let of_nodes = limits(nodes, rounds);
     let of_lanes = limits(links * 2, rounds);
-    rows_fit(counts, &of_nodes, &of_lanes)
+    rows_fit(&bodies, counts, &of_nodes, &of_lanes)
 }
 
 fn wide(x: u8) -> u16

@@ -8,9 +8,9 @@ use Rattle.synchronizer.proofs.valid.counts_fit.Tie as tie
 
 returns : tie.Need-returns
 returns c =
-    let a = c .before .before .before .before .before .args in
-    c .rows-fit .ensures ∙ rw (c .before .before .before .before .limits .ensures, c .before .before .before .limits2 .ensures) (rows-are-counts (a .nodes) (a .links) (a .rounds) (a .counts .now))
+    let a = c .before .before .before .before .before .before .before .args in
+    c .rows-fit .ensures ∙ rw (c .before .before .before .before .before .before .bodies .ensures, c .before .before .before .before .before .limits .ensures, c .before .before .before .before .limits2 .ensures) (rows-are-counts (a .nodes) (a .links) (a .rounds) (a .counts .now))
 
 pub counts-fit-spec : {M : Type 1} → statement M
 counts-fit-spec =
-    tie.close (tie.spec (λ c κs. search needs) (λ c. search needs) (λ c κs. search needs) (λ c κs. search needs) returns)
+    tie.close (tie.spec (λ c κs. search needs) (λ c κs. search needs) (λ c. search needs) (λ c κs. search needs) (λ c κs. search needs) returns)

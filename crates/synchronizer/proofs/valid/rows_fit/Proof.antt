@@ -9,17 +9,16 @@ use lib.ListN.{length, getD}
 use Rattle.laws.specs.Choice.{ifEq}
 use Rattle.laws.specs.Below.{allBelow}
 use Rattle.laws.proofs.Below.{all-start, all-more, all-fails, all-end}
-use Rattle.actions.specs.Kinds.{kinds, kindAt}
-use Rattle.actions.specs.Records.{bodyOf}
+use Rattle.actions.specs.Kinds.{kinds}
 use Rattle.synchronizer.proofs.valid.rows_fit.Statement.{statement}
 use Rattle.synchronizer.proofs.valid.rows_fit.Tie as tie
 
 abbrev Inv-loop : tie.InvT-loop
-Inv-loop counts nodes lanes row₀ row =
-    (row ≤ length kinds) × (allBelow (λ i. allBelow (λ x. leb (getD counts (i * 256 + x) 0) (getD (ifEq (bodyOf (kindAt i)) 1 nodes lanes) x 0)) 256) row ≡ true)
+Inv-loop bodies counts nodes lanes row₀ row =
+    (row ≤ length kinds) × (allBelow (λ i. allBelow (λ x. leb (getD counts (i * 256 + x) 0) (getD (ifEq (getD bodies i 0) 1 nodes lanes) x 0)) 256) row ≡ true)
 
 abbrev μ-loop : tie.MeasureT-loop
-μ-loop counts nodes lanes row₀ row = length kinds - row
+μ-loop bodies counts nodes lanes row₀ row = length kinds - row
 
 loop-holds : tie.Need-loop-holds Inv-loop μ-loop
 loop-holds c = (search needs, all-start _)
