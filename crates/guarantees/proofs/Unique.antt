@@ -84,6 +84,52 @@ use Rattle.actions.proofs.does_of.Kinds as actions-does-of-kinds
 use Rattle.actions.proofs.does_of.Reads as actions-does-of-reads
 use Rattle.actions.proofs.read.Kinds as actions-read-kinds
 use Rattle.actions.proofs.read.Reads as actions-read-reads
+use Rattle.synchronizer.proofs.State.start.Kinds as synchronizer-start-kinds
+use Rattle.synchronizer.proofs.State.start.Reads as synchronizer-start-reads
+use Rattle.synchronizer.proofs.State.output.Kinds as synchronizer-output-kinds
+use Rattle.synchronizer.proofs.State.output.Reads as synchronizer-output-reads
+use Rattle.synchronizer.proofs.State.packet_sent.Kinds as synchronizer-packet-sent-kinds
+use Rattle.synchronizer.proofs.State.packet_sent.Reads as synchronizer-packet-sent-reads
+use Rattle.synchronizer.proofs.State.packet_delivered.Kinds as synchronizer-packet-delivered-kinds
+use Rattle.synchronizer.proofs.State.packet_delivered.Reads as synchronizer-packet-delivered-reads
+use Rattle.synchronizer.proofs.State.ack_sent.Kinds as synchronizer-ack-sent-kinds
+use Rattle.synchronizer.proofs.State.ack_sent.Reads as synchronizer-ack-sent-reads
+use Rattle.synchronizer.proofs.State.ack_delivered.Kinds as synchronizer-ack-delivered-kinds
+use Rattle.synchronizer.proofs.State.ack_delivered.Reads as synchronizer-ack-delivered-reads
+use Rattle.synchronizer.proofs.State.ok.Kinds as synchronizer-ok-kinds
+use Rattle.synchronizer.proofs.State.ok.Reads as synchronizer-ok-reads
+use Rattle.synchronizer.proofs.State.subtree_ok_sent.Kinds as synchronizer-subtree-ok-sent-kinds
+use Rattle.synchronizer.proofs.State.subtree_ok_sent.Reads as synchronizer-subtree-ok-sent-reads
+use Rattle.synchronizer.proofs.State.subtree_ok_delivered.Kinds as synchronizer-subtree-ok-delivered-kinds
+use Rattle.synchronizer.proofs.State.subtree_ok_delivered.Reads as synchronizer-subtree-ok-delivered-reads
+use Rattle.synchronizer.proofs.State.cluster_ok.Kinds as synchronizer-cluster-ok-kinds
+use Rattle.synchronizer.proofs.State.cluster_ok.Reads as synchronizer-cluster-ok-reads
+use Rattle.synchronizer.proofs.State.down_sent.Kinds as synchronizer-down-sent-kinds
+use Rattle.synchronizer.proofs.State.down_sent.Reads as synchronizer-down-sent-reads
+use Rattle.synchronizer.proofs.State.down_delivered.Kinds as synchronizer-down-delivered-kinds
+use Rattle.synchronizer.proofs.State.down_delivered.Reads as synchronizer-down-delivered-reads
+use Rattle.synchronizer.proofs.State.preferred_sent.Kinds as synchronizer-preferred-sent-kinds
+use Rattle.synchronizer.proofs.State.preferred_sent.Reads as synchronizer-preferred-sent-reads
+use Rattle.synchronizer.proofs.State.preferred_delivered.Kinds as synchronizer-preferred-delivered-kinds
+use Rattle.synchronizer.proofs.State.preferred_delivered.Reads as synchronizer-preferred-delivered-reads
+use Rattle.synchronizer.proofs.State.up_sent.Kinds as synchronizer-up-sent-kinds
+use Rattle.synchronizer.proofs.State.up_sent.Reads as synchronizer-up-sent-reads
+use Rattle.synchronizer.proofs.State.up_delivered.Kinds as synchronizer-up-delivered-kinds
+use Rattle.synchronizer.proofs.State.up_delivered.Reads as synchronizer-up-delivered-reads
+use Rattle.synchronizer.proofs.State.cluster_go.Kinds as synchronizer-cluster-go-kinds
+use Rattle.synchronizer.proofs.State.cluster_go.Reads as synchronizer-cluster-go-reads
+use Rattle.synchronizer.proofs.State.subtree_go_sent.Kinds as synchronizer-subtree-go-sent-kinds
+use Rattle.synchronizer.proofs.State.subtree_go_sent.Reads as synchronizer-subtree-go-sent-reads
+use Rattle.synchronizer.proofs.State.subtree_go_delivered.Kinds as synchronizer-subtree-go-delivered-kinds
+use Rattle.synchronizer.proofs.State.subtree_go_delivered.Reads as synchronizer-subtree-go-delivered-reads
+use Rattle.synchronizer.proofs.State.go.Kinds as synchronizer-go-kinds
+use Rattle.synchronizer.proofs.State.go.Reads as synchronizer-go-reads
+use Rattle.synchronizer.proofs.State.input.Kinds as synchronizer-input-kinds
+use Rattle.synchronizer.proofs.State.input.Reads as synchronizer-input-reads
+use Rattle.synchronizer.proofs.State.act.Kinds as synchronizer-act-kinds
+use Rattle.synchronizer.proofs.State.act.Reads as synchronizer-act-reads
+use Rattle.synchronizer.proofs.State.run.Kinds as synchronizer-run-kinds
+use Rattle.synchronizer.proofs.State.run.Reads as synchronizer-run-reads
 
 -- of the same arguments the contract allows one result
 abbrev pub OneResult : (n : ℕ) (ps : List (PK n)) (r : RK n) → Out n ps r → Type 0
@@ -234,3 +280,74 @@ actions-does-of-one κs a x y s t p q = same p q
 
 pub actions-read-one : OneResult _ actions-read-kinds.ps actions-read-kinds.r actions-read-reads.Post
 actions-read-one κs a x y s t p q = same p q
+
+-- ---- synchronizer
+
+pub synchronizer-start-one : OneResult _ synchronizer-start-kinds.ps synchronizer-start-kinds.r synchronizer-start-reads.Post
+synchronizer-start-one κs a x y s t p q = same p q
+
+pub synchronizer-output-one : OneResult _ synchronizer-output-kinds.ps synchronizer-output-kinds.r synchronizer-output-reads.Post
+synchronizer-output-one κs a x y s t p q = same p q
+
+pub synchronizer-packet-sent-one : OneResult _ synchronizer-packet-sent-kinds.ps synchronizer-packet-sent-kinds.r synchronizer-packet-sent-reads.Post
+synchronizer-packet-sent-one κs a x y s t p q = same p q
+
+pub synchronizer-packet-delivered-one : OneResult _ synchronizer-packet-delivered-kinds.ps synchronizer-packet-delivered-kinds.r synchronizer-packet-delivered-reads.Post
+synchronizer-packet-delivered-one κs a x y s t p q = same p q
+
+pub synchronizer-ack-sent-one : OneResult _ synchronizer-ack-sent-kinds.ps synchronizer-ack-sent-kinds.r synchronizer-ack-sent-reads.Post
+synchronizer-ack-sent-one κs a x y s t p q = same p q
+
+pub synchronizer-ack-delivered-one : OneResult _ synchronizer-ack-delivered-kinds.ps synchronizer-ack-delivered-kinds.r synchronizer-ack-delivered-reads.Post
+synchronizer-ack-delivered-one κs a x y s t p q = same p q
+
+pub synchronizer-ok-one : OneResult _ synchronizer-ok-kinds.ps synchronizer-ok-kinds.r synchronizer-ok-reads.Post
+synchronizer-ok-one κs a x y s t p q = same p q
+
+pub synchronizer-subtree-ok-sent-one : OneResult _ synchronizer-subtree-ok-sent-kinds.ps synchronizer-subtree-ok-sent-kinds.r synchronizer-subtree-ok-sent-reads.Post
+synchronizer-subtree-ok-sent-one κs a x y s t p q = same p q
+
+pub synchronizer-subtree-ok-delivered-one : OneResult _ synchronizer-subtree-ok-delivered-kinds.ps synchronizer-subtree-ok-delivered-kinds.r synchronizer-subtree-ok-delivered-reads.Post
+synchronizer-subtree-ok-delivered-one κs a x y s t p q = same p q
+
+pub synchronizer-cluster-ok-one : OneResult _ synchronizer-cluster-ok-kinds.ps synchronizer-cluster-ok-kinds.r synchronizer-cluster-ok-reads.Post
+synchronizer-cluster-ok-one κs a x y s t p q = same p q
+
+pub synchronizer-down-sent-one : OneResult _ synchronizer-down-sent-kinds.ps synchronizer-down-sent-kinds.r synchronizer-down-sent-reads.Post
+synchronizer-down-sent-one κs a x y s t p q = same p q
+
+pub synchronizer-down-delivered-one : OneResult _ synchronizer-down-delivered-kinds.ps synchronizer-down-delivered-kinds.r synchronizer-down-delivered-reads.Post
+synchronizer-down-delivered-one κs a x y s t p q = same p q
+
+pub synchronizer-preferred-sent-one : OneResult _ synchronizer-preferred-sent-kinds.ps synchronizer-preferred-sent-kinds.r synchronizer-preferred-sent-reads.Post
+synchronizer-preferred-sent-one κs a x y s t p q = same p q
+
+pub synchronizer-preferred-delivered-one : OneResult _ synchronizer-preferred-delivered-kinds.ps synchronizer-preferred-delivered-kinds.r synchronizer-preferred-delivered-reads.Post
+synchronizer-preferred-delivered-one κs a x y s t p q = same p q
+
+pub synchronizer-up-sent-one : OneResult _ synchronizer-up-sent-kinds.ps synchronizer-up-sent-kinds.r synchronizer-up-sent-reads.Post
+synchronizer-up-sent-one κs a x y s t p q = same p q
+
+pub synchronizer-up-delivered-one : OneResult _ synchronizer-up-delivered-kinds.ps synchronizer-up-delivered-kinds.r synchronizer-up-delivered-reads.Post
+synchronizer-up-delivered-one κs a x y s t p q = same p q
+
+pub synchronizer-cluster-go-one : OneResult _ synchronizer-cluster-go-kinds.ps synchronizer-cluster-go-kinds.r synchronizer-cluster-go-reads.Post
+synchronizer-cluster-go-one κs a x y s t p q = same p q
+
+pub synchronizer-subtree-go-sent-one : OneResult _ synchronizer-subtree-go-sent-kinds.ps synchronizer-subtree-go-sent-kinds.r synchronizer-subtree-go-sent-reads.Post
+synchronizer-subtree-go-sent-one κs a x y s t p q = same p q
+
+pub synchronizer-subtree-go-delivered-one : OneResult _ synchronizer-subtree-go-delivered-kinds.ps synchronizer-subtree-go-delivered-kinds.r synchronizer-subtree-go-delivered-reads.Post
+synchronizer-subtree-go-delivered-one κs a x y s t p q = same p q
+
+pub synchronizer-go-one : OneResult _ synchronizer-go-kinds.ps synchronizer-go-kinds.r synchronizer-go-reads.Post
+synchronizer-go-one κs a x y s t p q = same p q
+
+pub synchronizer-input-one : OneResult _ synchronizer-input-kinds.ps synchronizer-input-kinds.r synchronizer-input-reads.Post
+synchronizer-input-one κs a x y s t p q = same p q
+
+pub synchronizer-act-one : OneResult _ synchronizer-act-kinds.ps synchronizer-act-kinds.r synchronizer-act-reads.Post
+synchronizer-act-one κs a x y s t p q = same p q
+
+pub synchronizer-run-one : OneResult _ synchronizer-run-kinds.ps synchronizer-run-kinds.r synchronizer-run-reads.Post
+synchronizer-run-one κs a x y s t p q = same p q
