@@ -1,6 +1,7 @@
 -- The text that a trial file gives (document 01, "The bench program").
 -- Assumes nothing.
-use Prim.Native.Nat.{ℕ, _+_}
+use Prim.Native.Nat.{ℕ, _+_, _≤_}
+use mathlib.Core.Path.{_≡_}
 use mathlib.Core.List.{List, _++_}
 use lib.ListN.{length, drop}
 use Rattle.laws.specs.Choice.{ifLt, ifEq}
@@ -42,3 +43,9 @@ writtenIn room text = ifLt room (length text) 0 (length text)
 -- the buffer afterwards: the text and the rest as before, or all as before
 unfoldable pub filledBy : List ℕ → List ℕ → List ℕ
 filledBy out text = ifLt (length out) (length text) out (text ++ drop (length text) out)
+
+-- what a trial's call promises: the answer, the buffer afterwards, and how long a buffer is long enough
+pub record Printed (bytes before : List ℕ) (answer : ℕ) (after : List ℕ) : Type 0 where
+  pub count : answer ≡ writtenIn (length before) (textOf bytes)
+  pub held : after ≡ filledBy before (textOf bytes)
+  pub at-most-2048 : length (textOf bytes) ≤ 2048
