@@ -91,9 +91,7 @@ class Bench:
                     yield bytes(action)
 
 
-def main():
-    nodes, links, seed = (int(x) for x in sys.argv[1:4])
-    length = int(sys.argv[4]) if len(sys.argv) > 4 else 65536
+def trial(nodes, links, seed, length):
     rnd = random.Random(seed)
     parent, wires = make_plan(nodes, links, rnd)
     starts = [rnd.randrange(65536) for _ in parent]
@@ -102,10 +100,9 @@ def main():
     plan = bytes([1]) + rounds.to_bytes(2, "big")
     plan += b"".join(bytes([2, p, up]) + s.to_bytes(2, "big") for p, (up, s) in enumerate(zip(parent, starts)))
     plan += b"".join(bytes([3, a, b, flag]) for a, b, flag in wires) + b"\0"
-    sys.stdout.buffer.write(plan)
-    if length:
-        for record in Bench(parent, wires, rounds).run(rnd):
-            sys.stdout.buffer.write(record)
+    return plan + (b"".join(Bench(parent, wires, rounds).run(rnd)) if length else b"")
 
 
-main()
+if __name__ == "__main__":
+    nodes, links, seed = (int(x) for x in sys.argv[1:4])
+    sys.stdout.buffer.write(trial(nodes, links, seed, int(sys.argv[4]) if len(sys.argv) > 4 else 65536))

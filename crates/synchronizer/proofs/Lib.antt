@@ -4,6 +4,7 @@ pub mod Effects
 pub mod Entries
 pub mod Faults
 pub mod Heads
+pub mod InTurn
 pub mod Keeps
 pub mod Limits
 pub mod Ranges

@@ -1,6 +1,7 @@
 pub mod After
 pub mod Answer
 pub mod Entry
+pub mod InTurn
 pub mod Shown
 pub mod Start
 pub mod Trials
