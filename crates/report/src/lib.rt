@@ -4,6 +4,7 @@ mod lines;
 use lines::end_line;
 use lines::run_lines;
 use network::Network;
+use records::ACCEPTED;
 use synchronizer::State;
 ghost use Prim.Native.Nat.{_≤_};
 ghost use lib.ListN.{length};
@@ -18,8 +19,6 @@ pub const TOO_LONG: u8 = 19;
 
 // A buffer of so many bytes has room for every text.
 pub const PAGE: usize = 2048;
-
-const ACCEPTED: u8 = 0;
 
 // The report of an accepted plan and the actions behind it, on a page.
 fn after_plan(page: &mut [u8], bytes: &[u8], from: usize, net: Network) -> usize

@@ -3,7 +3,7 @@ use actions::Counter;
 use actions::Kind;
 use text::line;
 ghost use mathlib.Core.List.{_++_};
-ghost use Prim.Native.Nat.{_+_, _*_, _≤_};
+ghost use Prim.Native.Nat.{_*_, _<_, _≤_};
 ghost use lib.ListN.{length};
 ghost use Rattle.text.specs.Put.{Put};
 ghost use Rattle.report.specs.Lines.{planLine, nodeLine, nodeLines, takenLine, endLine};
@@ -23,7 +23,7 @@ fn plan_line(
 }
 
 fn node_line(page: &mut [u8], at: usize, p: usize, outputs: u16, inputs: u16, value: u16) -> usize
-    requires { ⌜ p ≤ 64 ⌝ }
+    requires { ⌜ p < 64 ⌝ }
     ensures put { λ r. ⌜ Put (now (page .entry)) at (nodeLine p outputs inputs value) r (now (page .exit)) ⌝ }
     ensures short { λ r. ⌜ length (nodeLine p outputs inputs value) ≤ 29 ⌝ }
 {
