@@ -1,0 +1,69 @@
+-- Document 01's example of the bench program, computed on the definitions: its 21 bytes give its four lines, byte for byte. Only the look at 17
+-- is not computed: the start state of a valid network passes it by a law.
+-- Assumes nothing.
+use Prim.Native.Nat.{ℕ, suc}
+use mathlib.Core.Path.{_≡_, refl, sym, _∙_, ap}
+use mathlib.Core.Bool.{true}
+use mathlib.Core.List.{List}
+use lib.ListN.{length, drop}
+use Rattle.laws.specs.Choice.{ifB, ifLt, ifEq, both}
+use Rattle.laws.specs.Below.{firstOf, foldBelow, listBelow, allBelow, countBelow, sumBelow, pickBelow}
+use Rattle.laws.specs.Lists.{total}
+use Rattle.laws.proofs.Choice.{ifB-yes, both-yes}
+use Rattle.nodeset.specs.Marks.{digit, member, inserted, allIn, membersOf, valuesIn}
+use Rattle.network.specs.declared.Network.{Network}
+use Rattle.network.specs.Sets.{towards, linkGives, linkSet, childSet, withSets}
+use Rattle.network.specs.Valid.{withinLimits, nodeFits, rises, linkFits, linkRises, linkStands, agrees, validNetwork}
+use Rattle.records.specs.Record.{bodyLength, recordAt, readAt}
+use Rattle.records.specs.Rules.{roundsRule, nodeRule, followsOf, linkRule, endRule}
+use Rattle.records.specs.Reader.{zeroNetwork, roundsAdded, nodeAdded, linkAdded, turn, listsFrom, listsOf}
+use Rattle.links.specs.Links.{pairIs, joins, linkBetween, hasLink}
+use Rattle.tree.specs.Climb.{rootFrom}
+use Rattle.tree.specs.Checks.{untied, firstUntied, firstLost}
+use Rattle.clusters.specs.Clusters.{firstInside, firstNotOne, clusterCount}
+use Rattle.joined.specs.Joined.{follow, across, pass, joinedMarks, firstUnjoined}
+use Rattle.plan.specs.Checks.{checksOf, planOf}
+use Rattle.lockstep.specs.Rule.{shareOf, ruleOf}
+use Rattle.actions.specs.Kinds.{numberOf, indexOf, kindAt, cellOf}
+use Rattle.actions.specs.Table.{placeOf, ownOf, knowsBy, mayGoBy, needOf, everyOf, doesOf}
+use Rattle.actions.specs.Records as actions
+use Rattle.synchronizer.specs.declared.Done.{Done}
+use Rattle.synchronizer.specs.Wires.{joined, lanesOf, wiresOf, isRoot, aroundOf}
+use Rattle.synchronizer.specs.Answer.{standsIn, startsRound, countAnswer, childrenHave, sendersHave, everyHas, headOf, packetFirst, ackFirst, roomAnswer, queueAnswer, ownIn, legalAnswer, needAnswer, answerIn}
+use Rattle.synchronizer.specs.After.{pushed, movedUp, popped, meanHeard, effectIn, counted, afterIn}
+use Rattle.synchronizer.specs.Valid.{validState}
+use Rattle.synchronizer.specs.Start.{freshWith, startOf}
+use Rattle.synchronizer.specs.Entry.{inRange, doneIn, actedAs, recordIn, actIn, listFrom, listOf}
+use Rattle.synchronizer.proofs.Keeps.{start-valid}
+use Rattle.text.specs.Lines.{glyph, digitsIn, decimal, fields, line}
+use Rattle.report.specs.Example.{example, output}
+use Rattle.report.specs.Lines.{nodeLines}
+use Rattle.report.specs.Report.{runText, listText, plannedText, textOf}
+
+-- a list handed in from the start state of a valid network is looked at record by record
+from-the-start : (net : Network) (bytes : List ℕ) → length (net .starts) ≡ 64 → validNetwork net ≡ true → listOf net (startOf net .state) bytes ≡ listFrom (suc (length bytes)) (wiresOf net) (freshWith (net .starts)) bytes 0 0
+unfolding listOf inRange startOf
+from-the-start net bytes long valid =
+    ifB-yes (both (validNetwork net) (validState net (startOf net .state))) _ _ (both-yes (validNetwork net) (validState net (startOf net .state)) valid (start-valid net long valid .0))
+    ∙ ap (λ s. listFrom (suc (length bytes)) (wiresOf net) s bytes 0 0) (ap (λ (r : Done). r .state) (ifB-yes (validNetwork net) _ _ valid))
+
+net : Network
+net = planOf example .network
+
+-- the plan takes nine bytes, and its network is valid
+record Read : Type 0 where
+  pub text : textOf example ≡ runText net 9 (listOf net (startOf net .state) (drop 9 example))
+  pub long : length (net .starts) ≡ 64
+  pub valid : validNetwork net ≡ true
+
+plan-read : Read
+unfolding net example planOf checksOf listsOf listsFrom turn readAt recordAt bodyLength ifLt ifEq ifB both zeroNetwork roundsRule nodeRule followsOf rises linkRule endRule roundsAdded nodeAdded linkAdded withSets towards linkGives linkSet childSet firstUntied untied hasLink linkBetween joins pairIs firstOf firstLost rootFrom firstInside firstNotOne firstUnjoined joinedMarks pass across follow foldBelow listBelow allBelow member digit inserted withinLimits nodeFits linkFits linkRises linkStands agrees validNetwork listText plannedText textOf
+plan-read = record { text = refl; long = refl; valid = refl }
+
+run-written : runText net 9 (listFrom (suc (length (drop 9 example))) (wiresOf net) (freshWith (net .starts)) (drop 9 example) 0 0) ≡ output
+unfolding net example output planOf checksOf listsOf listsFrom turn readAt recordAt bodyLength ifLt ifEq ifB both zeroNetwork roundsRule nodeRule followsOf rises linkRule endRule roundsAdded nodeAdded linkAdded withSets towards linkGives linkSet childSet firstUntied untied hasLink linkBetween joins pairIs firstOf firstLost rootFrom firstInside firstNotOne firstUnjoined joinedMarks pass across follow foldBelow listBelow allBelow pickBelow member digit inserted allIn membersOf valuesIn clusterCount countBelow sumBelow shareOf ruleOf total numberOf indexOf kindAt cellOf placeOf ownOf knowsBy mayGoBy needOf everyOf doesOf actions.namesOf actions.bodyOf actions.actAt actions.readAt joined lanesOf wiresOf isRoot aroundOf standsIn startsRound countAnswer childrenHave sendersHave everyHas headOf packetFirst ackFirst roomAnswer queueAnswer ownIn legalAnswer needAnswer answerIn pushed movedUp popped meanHeard effectIn counted afterIn freshWith doneIn actedAs recordIn actIn listFrom glyph digitsIn decimal fields line nodeLines runText
+run-written = refl
+
+pub example-text : textOf example ≡ output
+example-text =
+    plan-read .text ∙ ap (runText net 9) (from-the-start net (drop 9 example) (plan-read .long) (plan-read .valid)) ∙ run-written

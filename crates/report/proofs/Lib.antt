@@ -1,0 +1,5 @@
+pub mod Example
+pub mod Places
+pub mod Plans
+pub mod Printed
+pub mod Short

@@ -1,0 +1,3 @@
+pub mod Example
+pub mod Lines
+pub mod Report

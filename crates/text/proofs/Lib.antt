@@ -1,0 +1,4 @@
+pub mod Decimal
+pub mod Digits
+pub mod Lines
+pub mod Put
