@@ -2,88 +2,85 @@
 // pair (p, p).
 
 use crate::answers::*;
-use crate::matrix::Matrix;
-use crate::matrix::linked;
-use crate::matrix::preferred;
 use crate::memory::*;
 use crate::needs::least_need;
 use crate::nodes::is_root;
+use crate::nodes::linked;
+use crate::nodes::preferred;
 use crate::rounds::input;
+ghost use Prim.Native.Nat.{_≤_};
 
 // "no such link, link not preferred (27, 28), a root where a parent is needed, no root for 24, 31"
-fn misplaced(plan: &Plan, matrix: &Matrix, kind: usize, p: usize, q: usize) -> bool {
+fn misplaced(plan: &Plan, kind: usize, p: usize, q: usize) -> bool {
     match kind {
-        PACKET_SENT..=ACK_DELIVERED => !linked(matrix, p, q),
-        PREFERRED_SENT..=PREFERRED_DELIVERED => !preferred(matrix, p, q),
+        PACKET_SENT..=ACK_DELIVERED => !linked(plan, p, q),
+        PREFERRED_SENT..=PREFERRED_DELIVERED => !preferred(plan, p, q),
         CLUSTER_OK | CLUSTER_GO => !is_root(plan, p),
         OUTPUT | OK | GO | INPUT => false,
         _ => is_root(plan, p),
     }
 }
 
-// Whether a message of a sort is first on p to q.
-fn is_first(world: &World, p: usize, q: usize, sort: u16) -> bool {
+// The sort of the first message on p to q; 0 if none waits.
+fn first_sort(world: &World, p: usize, q: usize) -> u16 {
     if cell(world, QUEUED, p, q) == 0 {
-        return false;
+        return 0;
     }
-    cell(world, SORT, p, q) == sort
+    cell(world, SORT, p, q)
 }
 
-// "A delivery whose waiting message is of the other sort is not enabled."
-fn can_deliver(world: &World, kind: usize, p: usize, q: usize) -> bool {
+// A number unless something holds.
+fn unless(holds: bool, number: u8) -> u8 {
+    if holds {
+        return ACCEPTED;
+    }
+    number
+}
+
+// "a packet is first on p to q", "an ack is first on p to q"; and 18 for "kind 17 or 19 with two
+// messages already queued".
+fn queue_refusal(kind: usize, waiting: u16, first: u16) -> u8 {
     match kind {
-        PACKET_DELIVERED => is_first(world, p, q, PACKET),
-        ACK_DELIVERED => is_first(world, p, q, ACK),
-        _ => true,
+        PACKET_DELIVERED => unless(first == PACKET, NEED_MISSING),
+        ACK_DELIVERED => unless(first == ACK, NEED_MISSING),
+        PACKET_SENT | ACK_SENT => unless(waiting < 2, QUEUE_FULL),
+        _ => ACCEPTED,
     }
 }
 
-// "kind 17 or 19 with two messages already queued"
-fn finds_no_room(world: &World, kind: usize, p: usize, q: usize) -> bool {
-    match kind {
-        PACKET_SENT | ACK_SENT => cell(world, QUEUED, p, q) >= 2,
-        _ => false,
-    }
-}
-
-// "output after the last round"
-fn is_too_late(plan: &Plan, world: &World, kind: usize, p: usize) -> bool {
+// 15 for "output after the last round", else 16 for a count that is short.
+fn count_refusal(kind: usize, done: usize, rounds: usize, least: usize) -> u8 {
     if kind == OUTPUT {
-        return count(world, OUTPUT, p, p) >= entry(plan, HEAD, ROUNDS);
+        if done >= rounds {
+            return LAST_ROUND_OVER;
+        }
     }
-    false
+    unless(done < least, NEED_MISSING)
 }
 
-// The first of the refusals 15, 16 and 18 that applies, or 0.
-fn not_now(plan: &Plan, world: &World, kind: usize, p: usize, q: usize, least: u64) -> u8 {
-    if is_too_late(plan, world, kind, p) {
-        return LAST_ROUND_OVER;
+// The first of the refusals 15, 16 and 18 that applies, or 0; least is the least of the needs.
+fn not_now(plan: &Plan, world: &World, kind: usize, p: usize, q: usize, least: usize) -> u8 {
+    let done = count(world, kind, p, q);
+    let number = count_refusal(kind, done, entry(plan, HEAD, ROUNDS), least);
+    if number != ACCEPTED {
+        return number;
     }
-    if count(world, kind, p, q) >= least {
-        return NEED_MISSING;
-    }
-    if !can_deliver(world, kind, p, q) {
-        return NEED_MISSING;
-    }
-    if finds_no_room(world, kind, p, q) {
-        return QUEUE_FULL;
-    }
-    ACCEPTED
+    queue_refusal(kind, cell(world, QUEUED, p, q), first_sort(world, p, q))
 }
 
 // The first of the refusals 13 to 16 and 18 that applies, or 0.
-fn refusal(plan: &Plan, matrix: &Matrix, world: &World, kind: usize, p: usize, q: usize) -> u8 {
-    let nodes = number(plan, HEAD, NODES);
+fn refusal(plan: &Plan, world: &World, kind: usize, p: usize, q: usize) -> u8 {
+    let nodes = entry(plan, HEAD, NODES);
     if p >= nodes {
         return NO_SUCH_NODE;
     }
     if q >= nodes {
         return NO_SUCH_NODE;
     }
-    if misplaced(plan, matrix, kind, p, q) {
+    if misplaced(plan, kind, p, q) {
         return NO_SUCH_ACTION;
     }
-    let least = least_need(plan, matrix, world, kind, p, q);
+    let least = least_need(plan, world, kind, p, q);
     not_now(plan, world, kind, p, q, least)
 }
 
@@ -103,15 +100,21 @@ fn lower(world: &mut World, sheet: usize, p: usize, q: usize) {
     }
 }
 
+// Which place of the queue p to q is free: the first, 0, or the second, 1.
+fn free_place(world: &World, p: usize, q: usize) -> usize
+    ensures { λ r. ⌜ r ≤ 1 ⌝ }
+{
+    if cell(world, QUEUED, p, q) == 0 {
+        return 0;
+    }
+    1
+}
+
 // A message joins the queue p to q, which has room for it.
 fn enqueue(world: &mut World, p: usize, q: usize, sort: u16, load: u16) {
-    if cell(world, QUEUED, p, q) == 0 {
-        set_cell(world, SORT, p, q, sort);
-        set_cell(world, LOAD, p, q, load);
-    } else {
-        set_cell(world, SECOND_SORT, p, q, sort);
-        set_cell(world, SECOND_LOAD, p, q, load);
-    }
+    let k = free_place(world, p, q);
+    set_cell(world, SORT + k, p, q, sort);
+    set_cell(world, LOAD + k, p, q, load);
     raise(world, QUEUED, p, q);
 }
 
@@ -129,7 +132,7 @@ fn dequeue(world: &mut World, p: usize, q: usize) {
 }
 
 // "the slot of i's parity"
-fn slot_of(i: u64) -> usize {
+fn slot_of(i: usize) -> usize {
     if i % 2 == 0 {
         return EVEN_SLOT;
     }
@@ -137,7 +140,7 @@ fn slot_of(i: u64) -> usize {
 }
 
 // What a taken action does besides being counted; i is its count.
-fn effect(matrix: &Matrix, world: &mut World, kind: usize, p: usize, q: usize, i: u64) {
+fn effect(plan: &Plan, world: &mut World, kind: usize, p: usize, q: usize, i: usize) {
     let slot = slot_of(i);
     let value = cell(world, VALUE, p, p);
     let load = cell(world, LOAD, p, q);
@@ -149,26 +152,19 @@ fn effect(matrix: &Matrix, world: &mut World, kind: usize, p: usize, q: usize, i
         }
         ACK_SENT => enqueue(world, p, q, ACK, 0),
         ACK_DELIVERED => dequeue(world, p, q),
-        INPUT => input(matrix, world, slot, p),
+        INPUT => input(plan, world, slot, p),
         _ => {}
     }
 }
 
 // Takes an action whose kind is known, or answers its refusal.
-pub(crate) fn take(
-    plan: &Plan,
-    matrix: &Matrix,
-    world: &mut World,
-    kind: usize,
-    p: usize,
-    q: usize,
-) -> u8 {
-    let number = refusal(plan, matrix, world, kind, p, q);
+pub(crate) fn take(plan: &Plan, world: &mut World, kind: usize, p: usize, q: usize) -> u8 {
+    let number = refusal(plan, world, kind, p, q);
     if number != ACCEPTED {
         return number;
     }
     raise(world, kind, p, q);
     let i = count(world, kind, p, q);
-    effect(matrix, world, kind, p, q, i);
+    effect(plan, world, kind, p, q, i);
     ACCEPTED
 }

@@ -2,14 +2,14 @@
 
 ghost use Prim.Native.Nat.{_<_, _≤_};
 
-fn wide(x: u8) -> u64
+fn wide(x: u8) -> usize
     ensures { λ r. ⌜ r < 256 ⌝ }
 {
-    x as u64
+    x as usize
 }
 
 // Byte k of the record at `at`, its kind being byte 0; 0 past the end.
-pub(crate) fn byte(bytes: &[u8], at: usize, k: usize) -> u64
+pub(crate) fn byte(bytes: &[u8], at: usize, k: usize) -> usize
     ensures { λ r. ⌜ r < 256 ⌝ }
 {
     if at < bytes.len() {
@@ -21,7 +21,7 @@ pub(crate) fn byte(bytes: &[u8], at: usize, k: usize) -> u64
 }
 
 // "Two-byte numbers have the high byte first."
-pub(crate) fn two_bytes(high: u64, low: u64) -> u64
+pub(crate) fn two_bytes(high: usize, low: usize) -> usize
     requires { ⌜ (high < 256) × (low < 256) ⌝ }
 {
     high * 256 + low

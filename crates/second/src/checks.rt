@@ -1,11 +1,10 @@
 // The checks over a whole plan: 6, 7, 8, 9 and 10, each a walk of its own.
 
 use crate::answers::*;
-use crate::matrix::Matrix;
-use crate::matrix::linked;
 use crate::memory::*;
 use crate::nodes::has;
 use crate::nodes::is_root;
+use crate::nodes::linked;
 use crate::nodes::with;
 ghost use Prim.Native.Nat.{_≤_};
 
@@ -17,7 +16,7 @@ const NOWHERE: usize = 256;
 fn root_of(plan: &Plan, p: usize) -> usize {
     let mut at = p;
     for _ in 0..MOST_NODES {
-        at = number(plan, PARENT, at);
+        at = entry(plan, PARENT, at);
     }
     if is_root(plan, at) {
         return at;
@@ -27,8 +26,8 @@ fn root_of(plan: &Plan, p: usize) -> usize {
 
 // Whether link l joins the clusters of roots x and y, whichever end is in which.
 fn joins(plan: &Plan, l: usize, x: usize, y: usize) -> bool {
-    let low = root_of(plan, number(plan, LOW, l));
-    let high = root_of(plan, number(plan, HIGH, l));
+    let low = root_of(plan, entry(plan, LOW, l));
+    let high = root_of(plan, entry(plan, HIGH, l));
     if low == x {
         return high == y;
     }
@@ -42,7 +41,7 @@ fn joins(plan: &Plan, l: usize, x: usize, y: usize) -> bool {
 fn preferred_at(plan: &Plan, l: usize, x: usize, y: usize) -> usize
     ensures { λ r. ⌜ r ≤ 1 ⌝ }
 {
-    if l >= number(plan, HEAD, LINKS) {
+    if l >= entry(plan, HEAD, LINKS) {
         return 0;
     }
     if entry(plan, FLAG, l) == 0 {
@@ -64,10 +63,10 @@ fn preferred_between(plan: &Plan, x: usize, y: usize) -> usize {
 }
 
 // The set of the nodes known to be joined to node 0, with what link l adds to it.
-fn spread(plan: &Plan, joined: u64, l: usize) -> u64 {
-    let a = number(plan, LOW, l);
-    let b = number(plan, HIGH, l);
-    if l >= number(plan, HEAD, LINKS) {
+fn spread(plan: &Plan, joined: usize, l: usize) -> usize {
+    let a = entry(plan, LOW, l);
+    let b = entry(plan, HIGH, l);
+    if l >= entry(plan, HEAD, LINKS) {
         return joined;
     }
     if has(joined, a) {
@@ -79,7 +78,7 @@ fn spread(plan: &Plan, joined: u64, l: usize) -> u64 {
     joined
 }
 
-fn spread_all(plan: &Plan, joined: u64) -> u64 {
+fn spread_all(plan: &Plan, joined: usize) -> usize {
     let mut all = joined;
     for l in 0..MOST_LINKS {
         all = spread(plan, all, l);
@@ -89,7 +88,7 @@ fn spread_all(plan: &Plan, joined: u64) -> u64 {
 
 // The nodes joined to node 0. After k turns each node within k links of it is found, and none that
 // can be reached is 64 links away.
-fn joined_to_first(plan: &Plan) -> u64 {
+fn joined_to_first(plan: &Plan) -> usize {
     let mut joined = with(0, 0);
     for _ in 0..MOST_NODES {
         joined = spread_all(plan, joined);
@@ -98,15 +97,15 @@ fn joined_to_first(plan: &Plan) -> u64 {
 }
 
 // "Each node that is no root has a link to its parent."
-fn lacks_parent(plan: &Plan, matrix: &Matrix, p: usize) -> bool {
-    let parent = number(plan, PARENT, p);
-    if parent >= number(plan, HEAD, NODES) {
+fn lacks_parent(plan: &Plan, p: usize) -> bool {
+    let parent = entry(plan, PARENT, p);
+    if parent >= entry(plan, HEAD, NODES) {
         return true;
     }
     if parent == p {
         return false;
     }
-    !linked(matrix, p, parent)
+    !linked(plan, p, parent)
 }
 
 // "A preferred link joins two clusters."
@@ -114,23 +113,34 @@ fn preferred_inside(plan: &Plan, l: usize) -> bool {
     if entry(plan, FLAG, l) == 0 {
         return false;
     }
-    root_of(plan, number(plan, LOW, l)) == root_of(plan, number(plan, HIGH, l))
+    root_of(plan, entry(plan, LOW, l)) == root_of(plan, entry(plan, HIGH, l))
 }
 
 // "For each two clusters with any link between them, exactly one of these links is preferred."
 fn not_one_preferred(plan: &Plan, l: usize) -> bool {
-    let x = root_of(plan, number(plan, LOW, l));
-    let y = root_of(plan, number(plan, HIGH, l));
+    let x = root_of(plan, entry(plan, LOW, l));
+    let y = root_of(plan, entry(plan, HIGH, l));
     if x == y {
         return false;
     }
     preferred_between(plan, x, y) != 1
 }
 
-// Whether node or link i is what a check looks for.
-fn fails(plan: &Plan, matrix: &Matrix, joined: u64, check: u8, i: usize) -> bool {
+// How many nodes or links a check walks over.
+fn length_of(plan: &Plan, check: u8) -> usize {
     match check {
-        NO_PARENT => lacks_parent(plan, matrix, i),
+        PREFERRED_INSIDE | NOT_ONE_PREFERRED => entry(plan, HEAD, LINKS),
+        _ => entry(plan, HEAD, NODES),
+    }
+}
+
+// Whether node or link i is there and is what a check looks for.
+fn fails(plan: &Plan, joined: usize, check: u8, i: usize) -> bool {
+    if i >= length_of(plan, check) {
+        return false;
+    }
+    match check {
+        NO_PARENT => lacks_parent(plan, i),
         NO_ROOT => root_of(plan, i) == NOWHERE,
         PREFERRED_INSIDE => preferred_inside(plan, i),
         NOT_ONE_PREFERRED => not_one_preferred(plan, i),
@@ -138,32 +148,21 @@ fn fails(plan: &Plan, matrix: &Matrix, joined: u64, check: u8, i: usize) -> bool
     }
 }
 
-// How many nodes or links a check walks over.
-fn length_of(plan: &Plan, check: u8) -> usize {
-    match check {
-        PREFERRED_INSIDE | NOT_ONE_PREFERRED => number(plan, HEAD, LINKS),
-        _ => number(plan, HEAD, NODES),
-    }
-}
-
 // The lowest node or the first link that fails a check, or a number that is too high for one.
-fn first_failing(plan: &Plan, matrix: &Matrix, joined: u64, check: u8) -> usize {
-    let length = length_of(plan, check);
+fn first_failing(plan: &Plan, joined: usize, check: u8) -> usize {
     for i in 0..MOST_LINKS {
-        if i < length {
-            if fails(plan, matrix, joined, check, i) {
-                return i;
-            }
+        if fails(plan, joined, check, i) {
+            return i;
         }
     }
     MOST_LINKS
 }
 
 // The first check that the plan fails, and where.
-pub(crate) fn whole_plan(plan: &Plan, matrix: &Matrix) -> Answer {
+pub(crate) fn whole_plan(plan: &Plan) -> Answer {
     let joined = joined_to_first(plan);
     for check in NO_PARENT..NOT_JOINED + 1 {
-        let i = first_failing(plan, matrix, joined, check);
+        let i = first_failing(plan, joined, check);
         if i < MOST_LINKS {
             return answered(check, i);
         }

@@ -1,10 +1,10 @@
 // A second simulator of document 01, written from the document alone, to hold the proved bench
 // against. It shares no code and no definition with any other crate, and keeps what it knows in
-// another shape: links are a matrix, and whatever belongs to a direction of a link or to a node is
-// a cell of a 64 x 64 sheet, found by the two nodes' numbers. What is proved of it is that every
-// call is safe and ends, for every argument; that it is right is for a comparison to show.
+// another shape: whatever belongs to a direction of a link or to a node is a cell of a 64 x 64 sheet,
+// found by the numbers of the two nodes, and no list of directions is kept. What is proved of it is
+// that every call is safe and ends, for every argument. That it is right is for a comparison to show.
 //
-// The caller lends two memories, which `memory` describes: a network, `[u64; PLAN]`, and a state,
+// The caller lends two memories, which `memory` describes: a network, `[usize; PLAN]`, and a state,
 // `[u16; WORLD]`. Both may hold anything.
 //
 //   memory::entry, set_entry    a number of a network, by row and place
@@ -30,7 +30,6 @@ pub mod answers;
 mod bytes;
 mod checks;
 mod lists;
-mod matrix;
 pub mod memory;
 mod needs;
 mod nodes;

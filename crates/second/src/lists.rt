@@ -5,8 +5,6 @@ use crate::answers::*;
 use crate::bytes::after;
 use crate::bytes::byte;
 use crate::bytes::cut_short;
-use crate::matrix::Matrix;
-use crate::matrix::draw_links;
 use crate::memory::*;
 use crate::ranges::state_outside;
 ghost use Prim.Native.Nat.{_≤_};
@@ -21,16 +19,16 @@ fn body(kind: usize) -> usize
 }
 
 fn kind_at(bytes: &[u8], at: usize) -> usize {
-    index(byte(bytes, at, 0))
+    byte(bytes, at, 0)
 }
 
 fn first_number(bytes: &[u8], at: usize) -> usize {
-    index(byte(bytes, at, 1))
+    byte(bytes, at, 1)
 }
 
 // The second number of an action of two, the only one of an action of one.
 fn last_number(bytes: &[u8], at: usize) -> usize {
-    index(byte(bytes, at, body(kind_at(bytes, at))))
+    byte(bytes, at, body(kind_at(bytes, at)))
 }
 
 // Whether a whole action stands at `at`: answers 0, 11 and 12.
@@ -51,7 +49,8 @@ fn form(bytes: &[u8], at: usize) -> u8 {
     ACCEPTED
 }
 
-fn take_at(plan: &Plan, matrix: &Matrix, world: &mut World, bytes: &[u8], at: usize) -> u8 {
+// The action at `at`: answers 0, 11 to 16 and 18. It does not ask whether 17 applies.
+pub fn act(plan: &Plan, world: &mut World, bytes: &[u8], at: usize) -> u8 {
     let number = form(bytes, at);
     if number != ACCEPTED {
         return number;
@@ -59,36 +58,7 @@ fn take_at(plan: &Plan, matrix: &Matrix, world: &mut World, bytes: &[u8], at: us
     let kind = kind_at(bytes, at);
     let p = first_number(bytes, at);
     let q = last_number(bytes, at);
-    take(plan, matrix, world, kind, p, q)
-}
-
-fn take_all(plan: &Plan, matrix: &Matrix, world: &mut World, bytes: &[u8]) -> Answer {
-    let mut at = 0;
-    let mut taken = 0;
-    while at < bytes.len() {
-        let number = take_at(plan, matrix, world, bytes, at);
-        if number != ACCEPTED {
-            return Answer {
-                number,
-                place: at,
-                taken,
-            };
-        }
-        at = after(at, body(kind_at(bytes, at)), bytes.len());
-        taken += 1;
-    }
-    Answer {
-        number: ACCEPTED,
-        place: at,
-        taken,
-    }
-}
-
-// The action at `at`: answers 0, 11 to 16 and 18. It does not ask whether 17 applies.
-pub fn act(plan: &Plan, world: &mut World, bytes: &[u8], at: usize) -> u8 {
-    let mut matrix = [0u8; SHEET];
-    draw_links(plan, &mut matrix);
-    take_at(plan, &matrix, world, bytes, at)
+    take(plan, world, kind, p, q)
 }
 
 // "A single action handed in": every refusal has place 0, and bytes after it are not read.
@@ -110,10 +80,26 @@ pub fn single_action(plan: &Plan, world: &mut World, bytes: &[u8]) -> Answer {
 // "A list of actions stops at the first refusal and answers its number, its place and how many
 // were taken; the state is that after those taken."
 pub fn run_actions(plan: &Plan, world: &mut World, bytes: &[u8]) -> Answer {
+    let mut at = 0;
+    let mut taken = 0;
     if state_outside(plan, world) {
         return answered(OUTSIDE, 0);
     }
-    let mut matrix = [0u8; SHEET];
-    draw_links(plan, &mut matrix);
-    take_all(plan, &matrix, world, bytes)
+    while at < bytes.len() {
+        let number = act(plan, world, bytes, at);
+        if number != ACCEPTED {
+            return Answer {
+                number,
+                place: at,
+                taken,
+            };
+        }
+        at = after(at, body(kind_at(bytes, at)), bytes.len());
+        taken += 1;
+    }
+    Answer {
+        number: ACCEPTED,
+        place: at,
+        taken,
+    }
 }

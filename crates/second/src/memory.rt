@@ -7,16 +7,16 @@ pub const MOST_NODES: usize = 64;
 
 pub const MOST_LINKS: usize = 128;
 
-pub const MOST_ROUNDS: u64 = 10000;
+pub const MOST_ROUNDS: usize = 10000;
 
-// A network: rows of numbers, as wide as the widest of them, a set of 64 yes-or-no marks.
+// A network: rows of numbers, each with room for a set of 64 yes-or-no marks.
 pub const ROWS: usize = 9;
 
 pub const PLAN: usize = ROWS * MOST_LINKS;
 
-pub type Plan = [u64; PLAN];
+pub type Plan = [usize; PLAN];
 
-// The row of three single numbers, and what they are.
+// The row of single numbers, and the three that stand there.
 pub const HEAD: usize = 0;
 
 pub const NODES: usize = 0;
@@ -120,7 +120,7 @@ pub const PACKET: u16 = 1;
 pub const ACK: u16 = 2;
 
 // The number at place i of a row.
-pub fn entry(plan: &Plan, row: usize, i: usize) -> u64 {
+pub fn entry(plan: &Plan, row: usize, i: usize) -> usize {
     if row < ROWS {
         if i < MOST_LINKS {
             return plan[row * MOST_LINKS + i];
@@ -129,22 +129,12 @@ pub fn entry(plan: &Plan, row: usize, i: usize) -> u64 {
     0
 }
 
-pub fn set_entry(plan: &mut Plan, row: usize, i: usize, x: u64) {
+pub fn set_entry(plan: &mut Plan, row: usize, i: usize, x: usize) {
     if row < ROWS {
         if i < MOST_LINKS {
             plan[row * MOST_LINKS + i] = x;
         }
     }
-}
-
-// A number where it names a node or a place.
-pub(crate) fn index(x: u64) -> usize {
-    x as usize
-}
-
-// An entry that is a count of something, or a node.
-pub(crate) fn number(plan: &Plan, row: usize, i: usize) -> usize {
-    index(entry(plan, row, i))
 }
 
 // "one or two node numbers": whether what a sheet holds belongs to the directions of links. The
@@ -188,16 +178,15 @@ pub fn set_cell(world: &mut World, sheet: usize, p: usize, q: usize, x: u16) {
     }
 }
 
-// A number of two bytes, where sums are made.
-pub(crate) fn wide(x: u16) -> u64
+// A number of two bytes, where it is added or compared.
+pub(crate) fn wide(x: u16) -> usize
     ensures { λ r. ⌜ r < 65536 ⌝ }
 {
-    x as u64
+    x as usize
 }
 
-// What stands in a cell, where it is added or compared; on the sheet of a kind of action, how often
-// it was taken.
-pub(crate) fn count(world: &World, sheet: usize, p: usize, q: usize) -> u64
+// The same of a cell; on the sheet of a kind of action, how often it was taken.
+pub(crate) fn count(world: &World, sheet: usize, p: usize, q: usize) -> usize
     ensures { λ r. ⌜ r < 65536 ⌝ }
 {
     wide(cell(world, sheet, p, q))

@@ -2,18 +2,24 @@
 // least i": so each row of the table asks that the action's own count be below some other counts,
 // and the least of these decides. An action of one node p is that of the pair (p, p).
 
-use crate::matrix::Matrix;
-use crate::matrix::linked;
-use crate::matrix::preferred;
 use crate::memory::*;
 use crate::nodes::is_child;
 use crate::nodes::is_root;
+use crate::nodes::linked;
+use crate::nodes::preferred;
 
 // Above every count: the answer for a node of which an action needs nothing.
-const NO_NEED: u64 = 65536;
+const NO_NEED: usize = 65536;
+
+fn kind_before(kind: usize) -> usize {
+    if kind > 0 {
+        return kind - 1;
+    }
+    0
+}
 
 // "A root knows by 24, another node by 26."
-fn knows(plan: &Plan, world: &World, p: usize) -> u64 {
+fn knows(plan: &Plan, world: &World, p: usize) -> usize {
     if is_root(plan, p) {
         return count(world, CLUSTER_OK, p, p);
     }
@@ -21,48 +27,40 @@ fn knows(plan: &Plan, world: &World, p: usize) -> u64 {
 }
 
 // "A root may go by 31, another by 33."
-fn may_go(plan: &Plan, world: &World, p: usize) -> u64 {
+fn may_go(plan: &Plan, world: &World, p: usize) -> usize {
     if is_root(plan, p) {
         return count(world, CLUSTER_GO, p, p);
     }
     count(world, SUBTREE_GO_DELIVERED, p, p)
 }
 
-// The need that a row of the table names first, "sent" for a delivery. For output it is "inputs of
-// p at least i - 1", so its own count has to be below the inputs and one more.
-fn first_need(plan: &Plan, world: &World, kind: usize, p: usize, q: usize) -> u64 {
+// The need that a row of the table names first. For output it is "inputs of p at least i - 1", so
+// its own count has to be below the inputs and one more. A delivery needs "sent", and input go: the
+// kind before their own.
+fn first_need(plan: &Plan, world: &World, kind: usize, p: usize, q: usize) -> usize {
     match kind {
         OUTPUT => count(world, INPUT, p, p) + 1,
-        PACKET_SENT => count(world, OUTPUT, p, p),
-        PACKET_DELIVERED => count(world, PACKET_SENT, p, q),
+        PACKET_SENT | OK => count(world, OUTPUT, p, p),
         ACK_SENT => count(world, PACKET_DELIVERED, q, p),
-        ACK_DELIVERED => count(world, ACK_SENT, p, q),
-        OK => count(world, OUTPUT, p, p),
         SUBTREE_OK_SENT | CLUSTER_OK => count(world, OK, p, p),
-        SUBTREE_OK_DELIVERED => count(world, SUBTREE_OK_SENT, p, p),
-        DOWN_SENT => knows(plan, world, number(plan, PARENT, p)),
-        DOWN_DELIVERED => count(world, DOWN_SENT, p, p),
-        PREFERRED_SENT => knows(plan, world, p),
-        PREFERRED_DELIVERED => count(world, PREFERRED_SENT, p, q),
-        UP_SENT | CLUSTER_GO => knows(plan, world, p),
-        UP_DELIVERED => count(world, UP_SENT, p, p),
-        SUBTREE_GO_SENT => may_go(plan, world, number(plan, PARENT, p)),
-        SUBTREE_GO_DELIVERED => count(world, SUBTREE_GO_SENT, p, p),
+        DOWN_SENT => knows(plan, world, entry(plan, PARENT, p)),
+        PREFERRED_SENT | UP_SENT | CLUSTER_GO => knows(plan, world, p),
+        SUBTREE_GO_SENT => may_go(plan, world, entry(plan, PARENT, p)),
         GO => may_go(plan, world, p),
-        _ => count(world, GO, p, p),
+        _ => count(world, kind_before(kind), p, q),
     }
 }
 
 // "ack delivered from every neighbour"
-fn need_of_neighbour(matrix: &Matrix, world: &World, p: usize, q: usize) -> u64 {
-    if linked(matrix, q, p) {
+fn need_of_neighbour(plan: &Plan, world: &World, p: usize, q: usize) -> usize {
+    if linked(plan, q, p) {
         return count(world, ACK_DELIVERED, q, p);
     }
     NO_NEED
 }
 
 // "subtree ok delivered from every child", "up delivered from every child"
-fn need_of_child(plan: &Plan, world: &World, kind: usize, p: usize, q: usize) -> u64 {
+fn need_of_child(plan: &Plan, world: &World, kind: usize, p: usize, q: usize) -> usize {
     if is_child(plan, q, p) {
         return count(world, kind, q, q);
     }
@@ -70,14 +68,14 @@ fn need_of_child(plan: &Plan, world: &World, kind: usize, p: usize, q: usize) ->
 }
 
 // "preferred word delivered to p on each of its preferred links"
-fn need_of_preferred(matrix: &Matrix, world: &World, p: usize, q: usize) -> u64 {
-    if preferred(matrix, q, p) {
+fn need_of_preferred(plan: &Plan, world: &World, p: usize, q: usize) -> usize {
+    if preferred(plan, q, p) {
         return count(world, PREFERRED_DELIVERED, q, p);
     }
     NO_NEED
 }
 
-fn smaller(x: u64, y: u64) -> u64 {
+fn smaller(x: usize, y: usize) -> usize {
     if x < y {
         return x;
     }
@@ -85,30 +83,23 @@ fn smaller(x: u64, y: u64) -> u64 {
 }
 
 // What an action of p needs of q by the words "every" and "each".
-fn need_of(plan: &Plan, matrix: &Matrix, world: &World, kind: usize, p: usize, q: usize) -> u64 {
+fn need_of(plan: &Plan, world: &World, kind: usize, p: usize, q: usize) -> usize {
     match kind {
-        OK => need_of_neighbour(matrix, world, p, q),
+        OK => need_of_neighbour(plan, world, p, q),
         SUBTREE_OK_SENT | CLUSTER_OK => need_of_child(plan, world, SUBTREE_OK_DELIVERED, p, q),
         UP_SENT | CLUSTER_GO => smaller(
             need_of_child(plan, world, UP_DELIVERED, p, q),
-            need_of_preferred(matrix, world, p, q),
+            need_of_preferred(plan, world, p, q),
         ),
         _ => NO_NEED,
     }
 }
 
 // The least count among the needs of an action.
-pub(crate) fn least_need(
-    plan: &Plan,
-    matrix: &Matrix,
-    world: &World,
-    kind: usize,
-    p: usize,
-    q: usize,
-) -> u64 {
+pub(crate) fn least_need(plan: &Plan, world: &World, kind: usize, p: usize, q: usize) -> usize {
     let mut least = first_need(plan, world, kind, p, q);
     for other in 0..MOST_NODES {
-        least = smaller(least, need_of(plan, matrix, world, kind, p, other));
+        least = smaller(least, need_of(plan, world, kind, p, other));
     }
     least
 }

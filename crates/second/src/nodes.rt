@@ -1,32 +1,47 @@
-// What the lists of a network say of a node: whether it is a root, and its three sets.
+// What a network says of its nodes. The sets of one kind, one below the other, are a matrix with a
+// mark for every ordered pair of nodes, and that is how links and children are looked up.
 
-use crate::matrix::Matrix;
-use crate::matrix::linked;
-use crate::matrix::preferred;
 use crate::memory::*;
 ghost use Prim.Native.Nat.{_≤_};
 
-// "A node that names itself as parent is a root"
-pub(crate) fn is_root(plan: &Plan, p: usize) -> bool {
-    number(plan, PARENT, p) == p
+// "A number above 63 is in no set, and adding it changes nothing."
+pub(crate) fn has(set: usize, q: usize) -> bool {
+    if q < MOST_NODES {
+        return (set >> q) % 2 == 1;
+    }
+    false
 }
 
-// "A node's children are the other nodes that name it as parent."
+pub(crate) fn with(set: usize, q: usize) -> usize {
+    if q < MOST_NODES {
+        return set | (1usize << q);
+    }
+    set
+}
+
+pub(crate) fn linked(plan: &Plan, p: usize, q: usize) -> bool {
+    has(entry(plan, NEIGHBOURS, p), q)
+}
+
+pub(crate) fn preferred(plan: &Plan, p: usize, q: usize) -> bool {
+    has(entry(plan, PREFERRED, p), q)
+}
+
+// Whether q is a child of p.
 pub(crate) fn is_child(plan: &Plan, q: usize, p: usize) -> bool {
-    if q >= number(plan, HEAD, NODES) {
-        return false;
-    }
-    if q == p {
-        return false;
-    }
-    number(plan, PARENT, q) == p
+    has(entry(plan, CHILDREN, p), q)
+}
+
+// "A node that names itself as parent is a root"
+pub(crate) fn is_root(plan: &Plan, p: usize) -> bool {
+    entry(plan, PARENT, p) == p
 }
 
 // 1 if p is a root, else 0.
 fn roots_at(plan: &Plan, p: usize) -> usize
     ensures { λ r. ⌜ r ≤ 1 ⌝ }
 {
-    if p >= number(plan, HEAD, NODES) {
+    if p >= entry(plan, HEAD, NODES) {
         return 0;
     }
     if is_root(plan, p) {
@@ -44,53 +59,45 @@ pub fn clusters(plan: &Plan) -> usize {
     found
 }
 
-// Whether q is in the set of p that a row keeps.
-fn belongs(plan: &Plan, matrix: &Matrix, row: usize, p: usize, q: usize) -> bool {
-    match row {
-        NEIGHBOURS => linked(matrix, p, q),
-        PREFERRED => preferred(matrix, p, q),
-        _ => is_child(plan, q, p),
+// Puts q into the set of p.
+fn mark(plan: &mut Plan, row: usize, p: usize, q: usize) {
+    let set = with(entry(plan, row, p), q);
+    set_entry(plan, row, p, set);
+}
+
+// Marks the ends of link l, if there is one, in each other's sets.
+fn mark_link(plan: &mut Plan, row: usize, l: usize) {
+    let a = entry(plan, LOW, l);
+    let b = entry(plan, HIGH, l);
+    if l < entry(plan, HEAD, LINKS) {
+        mark(plan, row, a, b);
+        mark(plan, row, b, a);
     }
 }
 
-// "A number above 63 is in no set, and adding it changes nothing."
-pub(crate) fn has(set: u64, q: usize) -> bool {
-    if q < MOST_NODES {
-        return (set >> q) % 2 == 1;
-    }
-    false
-}
-
-pub(crate) fn with(set: u64, q: usize) -> u64 {
-    if q < MOST_NODES {
-        return set | (1u64 << q);
-    }
-    set
-}
-
-// The set of p that a row keeps, from the lists.
-pub(crate) fn set_of(plan: &Plan, matrix: &Matrix, row: usize, p: usize) -> u64 {
-    let mut set = 0u64;
-    for q in 0..MOST_NODES {
-        if belongs(plan, matrix, row, p, q) {
-            set = with(set, q);
-        }
-    }
-    set
-}
-
-fn enter_set(plan: &mut Plan, matrix: &Matrix, row: usize, p: usize) {
-    if p < number(plan, HEAD, NODES) {
-        let set = set_of(plan, matrix, row, p);
-        set_entry(plan, row, p, set);
+// Every link makes neighbours, and a preferred one preferred neighbours too.
+fn mark_flagged(plan: &mut Plan, l: usize) {
+    mark_link(plan, NEIGHBOURS, l);
+    if entry(plan, FLAG, l) > 0 {
+        mark_link(plan, PREFERRED, l);
     }
 }
 
-// Keeps the three sets of each node beside the lists.
-pub(crate) fn enter_sets(plan: &mut Plan, matrix: &Matrix) {
-    for p in 0..MOST_NODES {
-        enter_set(plan, matrix, NEIGHBOURS, p);
-        enter_set(plan, matrix, CHILDREN, p);
-        enter_set(plan, matrix, PREFERRED, p);
+// "A node's children are the other nodes that name it as parent."
+fn mark_child(plan: &mut Plan, q: usize) {
+    let parent = entry(plan, PARENT, q);
+    if q >= entry(plan, HEAD, NODES) {
+        return;
+    }
+    if parent != q {
+        mark(plan, CHILDREN, parent, q);
+    }
+}
+
+// Keeps the sets that the lists give beside them, where no sets were before.
+pub(crate) fn enter_sets(plan: &mut Plan) {
+    for i in 0..MOST_LINKS {
+        mark_flagged(plan, i);
+        mark_child(plan, i);
     }
 }

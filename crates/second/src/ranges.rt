@@ -1,28 +1,28 @@
 // Answer 17: a handed-in network or state outside the ranges. Both memories are walked whole, so
 // that what stands past the nodes, past the links or past a queue's length is seen too.
 
-use crate::matrix::Matrix;
-use crate::matrix::draw_links;
-use crate::matrix::linked;
 use crate::memory::*;
-use crate::nodes::set_of;
+use crate::nodes::enter_sets;
+use crate::nodes::linked;
 use crate::reading::rises;
 
 // "nodes, links or rounds are outside their limits"
 fn head_outside(plan: &Plan) -> bool {
-    if number(plan, HEAD, NODES) == 0 {
+    let nodes = entry(plan, HEAD, NODES);
+    let rounds = entry(plan, HEAD, ROUNDS);
+    if nodes == 0 {
         return true;
     }
-    if number(plan, HEAD, NODES) > MOST_NODES {
+    if nodes > MOST_NODES {
         return true;
     }
-    if number(plan, HEAD, LINKS) > MOST_LINKS {
+    if entry(plan, HEAD, LINKS) > MOST_LINKS {
         return true;
     }
-    if entry(plan, HEAD, ROUNDS) == 0 {
+    if rounds == 0 {
         return true;
     }
-    entry(plan, HEAD, ROUNDS) > MOST_ROUNDS
+    rounds > MOST_ROUNDS
 }
 
 // "a link has a not below b, or links do not rise strictly"
@@ -41,12 +41,12 @@ fn link_outside(plan: &Plan, l: usize) -> bool {
 // "a link end or parent is not below the node count, or a flag is above 1"; "a neighbour or child
 // set, or any other derived fact, kept beside the list differs from what the list gives". A start
 // value is of two bytes, and an entry has room for more.
-fn entry_outside(plan: &Plan, matrix: &Matrix, row: usize, i: usize) -> bool {
+fn entry_outside(plan: &Plan, derived: &Plan, row: usize, i: usize) -> bool {
     let x = entry(plan, row, i);
     match row {
         PARENT | HIGH => x >= entry(plan, HEAD, NODES),
         START => x > 65535,
-        NEIGHBOURS..=PREFERRED => x != set_of(plan, matrix, row, i),
+        NEIGHBOURS..=PREFERRED => x != entry(derived, row, i),
         LOW => link_outside(plan, i),
         _ => x > 1,
     }
@@ -55,26 +55,35 @@ fn entry_outside(plan: &Plan, matrix: &Matrix, row: usize, i: usize) -> bool {
 // How many places of a row are in use.
 fn used(plan: &Plan, row: usize) -> usize {
     if row < LOW {
-        return number(plan, HEAD, NODES);
+        return entry(plan, HEAD, NODES);
     }
-    number(plan, HEAD, LINKS)
+    entry(plan, HEAD, LINKS)
 }
 
 // "an entry past the node or link count .. is not 0"
-fn wrong_entry(plan: &Plan, matrix: &Matrix, row: usize, i: usize) -> bool {
+fn wrong_entry(plan: &Plan, derived: &Plan, row: usize, i: usize) -> bool {
     if i < used(plan, row) {
-        return entry_outside(plan, matrix, row, i);
+        return entry_outside(plan, derived, row, i);
     }
     entry(plan, row, i) > 0
 }
 
-fn any_wrong_entry(plan: &Plan, matrix: &Matrix) -> bool {
+fn any_wrong_entry(plan: &Plan, derived: &Plan) -> bool {
     for i in MOST_LINKS..PLAN {
-        if wrong_entry(plan, matrix, i / MOST_LINKS, i % MOST_LINKS) {
+        if wrong_entry(plan, derived, i / MOST_LINKS, i % MOST_LINKS) {
             return true;
         }
     }
     false
+}
+
+// Takes all sets away.
+fn clear_sets(plan: &mut Plan) {
+    for p in 0..MOST_LINKS {
+        set_entry(plan, NEIGHBOURS, p, 0);
+        set_entry(plan, CHILDREN, p, 0);
+        set_entry(plan, PREFERRED, p, 0);
+    }
 }
 
 // Whether 17 applies to a network.
@@ -82,18 +91,19 @@ pub fn network_outside(plan: &Plan) -> bool {
     if head_outside(plan) {
         return true;
     }
-    let mut matrix = [0u8; SHEET];
-    draw_links(plan, &mut matrix);
-    any_wrong_entry(plan, &matrix)
+    let mut derived = *plan;
+    clear_sets(&mut derived);
+    enter_sets(&mut derived);
+    any_wrong_entry(plan, &derived)
 }
 
 // Whether the network has the direction or the node that a cell is for.
-fn in_use(plan: &Plan, matrix: &Matrix, sheet: usize, p: usize, q: usize) -> bool {
+fn in_use(plan: &Plan, sheet: usize, p: usize, q: usize) -> bool {
     if of_directions(sheet) {
-        return linked(matrix, p, q);
+        return linked(plan, p, q);
     }
     if p == q {
-        return p < number(plan, HEAD, NODES);
+        return p < entry(plan, HEAD, NODES);
     }
     false
 }
@@ -128,25 +138,18 @@ fn cell_outside(plan: &Plan, world: &World, sheet: usize, p: usize, q: usize) ->
     }
 }
 
-fn wrong_cell(
-    plan: &Plan,
-    matrix: &Matrix,
-    world: &World,
-    sheet: usize,
-    p: usize,
-    q: usize,
-) -> bool {
-    if in_use(plan, matrix, sheet, p, q) {
+fn wrong_cell(plan: &Plan, world: &World, sheet: usize, p: usize, q: usize) -> bool {
+    if in_use(plan, sheet, p, q) {
         return cell_outside(plan, world, sheet, p, q);
     }
     cell(world, sheet, p, q) > 0
 }
 
-fn any_wrong_cell(plan: &Plan, matrix: &Matrix, world: &World) -> bool {
+fn any_wrong_cell(plan: &Plan, world: &World) -> bool {
     for i in 0..WORLD {
         let sheet = OUTPUT + i / SHEET;
         let p = i / MOST_NODES % MOST_NODES;
-        if wrong_cell(plan, matrix, world, sheet, p, i % MOST_NODES) {
+        if wrong_cell(plan, world, sheet, p, i % MOST_NODES) {
             return true;
         }
     }
@@ -158,7 +161,5 @@ pub fn state_outside(plan: &Plan, world: &World) -> bool {
     if network_outside(plan) {
         return true;
     }
-    let mut matrix = [0u8; SHEET];
-    draw_links(plan, &mut matrix);
-    any_wrong_cell(plan, &matrix, world)
+    any_wrong_cell(plan, world)
 }

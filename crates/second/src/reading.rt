@@ -9,21 +9,20 @@ use crate::bytes::byte;
 use crate::bytes::cut_short;
 use crate::bytes::two_bytes;
 use crate::checks::whole_plan;
-use crate::matrix::draw_links;
 use crate::memory::*;
 use crate::nodes::enter_sets;
-ghost use Prim.Native.Nat.{_≤_};
+ghost use Prim.Native.Nat.{_≤_, _<_};
 
 // The kinds of record: end of plan, rounds, node and link.
-const END: u64 = 0;
+const END: usize = 0;
 
-const TURNS: u64 = 1;
+const TURNS: usize = 1;
 
-const NODE: u64 = 2;
+const NODE: usize = 2;
 
-const LINK: u64 = 3;
+const LINK: usize = 3;
 
-fn body(kind: u64) -> usize {
+fn body(kind: usize) -> usize {
     match kind {
         END => 0,
         TURNS => 2,
@@ -50,7 +49,7 @@ fn end_fault(nodes: usize) -> u8 {
     ACCEPTED
 }
 
-fn rounds_fault(at: usize, rounds: u64) -> u8 {
+fn rounds_fault(at: usize, rounds: usize) -> u8 {
     if at > 0 {
         return OUT_OF_ORDER;
     }
@@ -80,7 +79,7 @@ fn node_fault(at: usize, nodes: usize, links: usize, p: usize) -> u8 {
 }
 
 // Whether link (a, b) is above link (c, d).
-pub(crate) fn rises(a: u64, b: u64, c: u64, d: u64) -> bool {
+pub(crate) fn rises(a: usize, b: usize, c: usize, d: usize) -> bool {
     if a == c {
         return d < b;
     }
@@ -105,7 +104,7 @@ fn follows(bytes: &[u8], at: usize, nodes: usize, links: usize) -> bool {
     )
 }
 
-fn link_fault(follows: bool, nodes: usize, links: usize, a: usize, b: usize, flag: u64) -> u8 {
+fn link_fault(follows: bool, nodes: usize, links: usize, a: usize, b: usize, flag: usize) -> u8 {
     if !follows {
         return OUT_OF_ORDER;
     }
@@ -132,8 +131,8 @@ fn fault(bytes: &[u8], at: usize, nodes: usize, links: usize) -> u8 {
     match byte(bytes, at, 0) {
         END => end_fault(nodes),
         TURNS => rounds_fault(at, two_bytes(first, second)),
-        NODE => node_fault(at, nodes, links, index(first)),
-        _ => link_fault(follows, nodes, links, index(first), index(second), flag),
+        NODE => node_fault(at, nodes, links, first),
+        _ => link_fault(follows, nodes, links, first, second, flag),
     }
 }
 
@@ -150,7 +149,7 @@ fn record_fault(bytes: &[u8], at: usize, nodes: usize, links: usize) -> u8 {
 }
 
 // 1 for a record of the one kind, 0 for one of another.
-fn one_if(kind: u64, wanted: u64) -> usize
+fn one_if(kind: usize, wanted: usize) -> usize
     ensures { λ r. ⌜ r ≤ 1 ⌝ }
 {
     if kind == wanted {
@@ -195,10 +194,12 @@ fn judge(bytes: &[u8]) -> Records {
     }
 }
 
-// Node p stands after the rounds and p other nodes.
-fn enter_node(plan: &mut Plan, bytes: &[u8], p: usize) {
-    if p < MOST_NODES {
-        let at = 3 + 5 * p;
+// Node p, if there is one, stands after the rounds and p other nodes.
+fn enter_node(plan: &mut Plan, bytes: &[u8], nodes: usize, p: usize)
+    requires { ⌜ p < 64 ⌝ }
+{
+    let at = 3 + 5 * p;
+    if p < nodes {
         set_entry(plan, PARENT, p, byte(bytes, at, 2));
         set_entry(
             plan,
@@ -211,40 +212,35 @@ fn enter_node(plan: &mut Plan, bytes: &[u8], p: usize) {
 
 fn enter_nodes(plan: &mut Plan, bytes: &[u8], nodes: usize) {
     for p in 0..MOST_NODES {
-        if p < nodes {
-            enter_node(plan, bytes, p);
-        }
+        enter_node(plan, bytes, nodes, p);
     }
 }
 
-// Link l stands after the rounds, the nodes and l other links.
-fn enter_link(plan: &mut Plan, bytes: &[u8], nodes: usize, l: usize) {
-    if nodes <= MOST_NODES {
-        if l < MOST_LINKS {
-            let at = 3 + 5 * nodes + 4 * l;
-            set_entry(plan, LOW, l, byte(bytes, at, 1));
-            set_entry(plan, HIGH, l, byte(bytes, at, 2));
-            set_entry(plan, FLAG, l, byte(bytes, at, 3));
-        }
+// Link l, if there is one, stands after the rounds, the nodes and l other links.
+fn enter_link(plan: &mut Plan, bytes: &[u8], first: usize, links: usize, l: usize)
+    requires { ⌜ (first ≤ 323) × (l < 128) ⌝ }
+{
+    let at = first + 4 * l;
+    if l < links {
+        set_entry(plan, LOW, l, byte(bytes, at, 1));
+        set_entry(plan, HIGH, l, byte(bytes, at, 2));
+        set_entry(plan, FLAG, l, byte(bytes, at, 3));
     }
 }
 
 fn enter_links(plan: &mut Plan, bytes: &[u8], nodes: usize, links: usize) {
-    for l in 0..MOST_LINKS {
-        if l < links {
-            enter_link(plan, bytes, nodes, l);
+    if nodes <= MOST_NODES {
+        let first = 3 + 5 * nodes;
+        for l in 0..MOST_LINKS {
+            enter_link(plan, bytes, first, links, l);
         }
     }
 }
 
-fn wide(x: usize) -> u64 {
-    x as u64
-}
-
 // Enters the records of a plan without fault.
 fn enter(plan: &mut Plan, bytes: &[u8], nodes: usize, links: usize) {
-    set_entry(plan, HEAD, NODES, wide(nodes));
-    set_entry(plan, HEAD, LINKS, wide(links));
+    set_entry(plan, HEAD, NODES, nodes);
+    set_entry(plan, HEAD, LINKS, links);
     set_entry(
         plan,
         HEAD,
@@ -258,19 +254,17 @@ fn enter(plan: &mut Plan, bytes: &[u8], nodes: usize, links: usize) {
 // Reads the plan at the start of a byte string: answers 0 to 10. "A refused plan hands back a
 // network of zeros."
 pub fn read_plan(plan: &mut Plan, bytes: &[u8]) -> Answer {
-    *plan = [0u64; PLAN];
+    *plan = [0usize; PLAN];
     let records = judge(bytes);
     if records.number != ACCEPTED {
         return answered(records.number, records.place);
     }
     enter(plan, bytes, records.nodes, records.links);
-    let mut matrix = [0u8; SHEET];
-    draw_links(plan, &mut matrix);
-    let whole = whole_plan(plan, &matrix);
+    enter_sets(plan);
+    let whole = whole_plan(plan);
     if whole.number != ACCEPTED {
-        *plan = [0u64; PLAN];
+        *plan = [0usize; PLAN];
         return whole;
     }
-    enter_sets(plan, &matrix);
     answered(ACCEPTED, records.place)
 }

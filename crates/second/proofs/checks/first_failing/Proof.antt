@@ -6,12 +6,12 @@ use Rattle.second.proofs.checks.first_failing.Statement.{statement}
 use Rattle.second.proofs.checks.first_failing.Tie as tie
 
 abbrev Inv-loop : tie.InvT-loop
-Inv-loop plan matrix joined check length i₀ i = i ≤ 128
+Inv-loop plan joined check i₀ i = i ≤ 128
 
 abbrev μ-loop : tie.MeasureT-loop
-μ-loop plan matrix joined check length i₀ i = 128 - i
+μ-loop plan joined check i₀ i = 128 - i
 
 pub first-failing-spec : {M : Type 1} → statement M
 first-failing-spec =
     tie.close
-    (tie.spec Inv-loop μ-loop (λ c κs. search needs) (λ c. search needs) (λ c κs. search needs) (λ c. search needs) (λ c. search needs) (λ c. search needs) (λ c. search needs) (λ c. search needs))
+    (tie.spec Inv-loop μ-loop (λ c. search needs) (λ c κs. search needs) (λ c. search needs) (λ c. search needs) (λ c. search needs) (λ c. search needs) (λ c. search needs))

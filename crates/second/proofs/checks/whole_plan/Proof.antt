@@ -6,10 +6,10 @@ use Rattle.second.proofs.checks.whole_plan.Statement.{statement}
 use Rattle.second.proofs.checks.whole_plan.Tie as tie
 
 abbrev Inv-loop : tie.InvT-loop
-Inv-loop plan matrix joined check₀ check = check ≤ 11
+Inv-loop plan joined check₀ check = check ≤ 11
 
 abbrev μ-loop : tie.MeasureT-loop
-μ-loop plan matrix joined check₀ check = 11 - check
+μ-loop plan joined check₀ check = 11 - check
 
 pub whole-plan-spec : {M : Type 1} → statement M
 whole-plan-spec =

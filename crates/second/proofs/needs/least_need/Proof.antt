@@ -6,10 +6,10 @@ use Rattle.second.proofs.needs.least_need.Statement.{statement}
 use Rattle.second.proofs.needs.least_need.Tie as tie
 
 abbrev Inv-loop : tie.InvT-loop
-Inv-loop plan matrix world kind p q least₀ other₀ least other = other ≤ 64
+Inv-loop plan world kind p q least₀ other₀ least other = other ≤ 64
 
 abbrev μ-loop : tie.MeasureT-loop
-μ-loop plan matrix world kind p q least₀ other₀ least other = 64 - other
+μ-loop plan world kind p q least₀ other₀ least other = 64 - other
 
 pub least-need-spec : {M : Type 1} → statement M
 least-need-spec =

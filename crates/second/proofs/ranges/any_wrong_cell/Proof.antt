@@ -6,10 +6,10 @@ use Rattle.second.proofs.ranges.any_wrong_cell.Statement.{statement}
 use Rattle.second.proofs.ranges.any_wrong_cell.Tie as tie
 
 abbrev Inv-loop : tie.InvT-loop
-Inv-loop plan matrix world i₀ i = i ≤ 114688
+Inv-loop plan world i₀ i = i ≤ 114688
 
 abbrev μ-loop : tie.MeasureT-loop
-μ-loop plan matrix world i₀ i = 114688 - i
+μ-loop plan world i₀ i = 114688 - i
 
 pub any-wrong-cell-spec : {M : Type 1} → statement M
 any-wrong-cell-spec =

@@ -6,10 +6,10 @@ use Rattle.second.proofs.ranges.any_wrong_entry.Statement.{statement}
 use Rattle.second.proofs.ranges.any_wrong_entry.Tie as tie
 
 abbrev Inv-loop : tie.InvT-loop
-Inv-loop plan matrix i₀ i = i ≤ 1152
+Inv-loop plan derived i₀ i = i ≤ 1152
 
 abbrev μ-loop : tie.MeasureT-loop
-μ-loop plan matrix i₀ i = 1152 - i
+μ-loop plan derived i₀ i = 1152 - i
 
 pub any-wrong-entry-spec : {M : Type 1} → statement M
 any-wrong-entry-spec =

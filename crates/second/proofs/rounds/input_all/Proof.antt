@@ -6,10 +6,10 @@ use Rattle.second.proofs.rounds.input_all.Statement.{statement}
 use Rattle.second.proofs.rounds.input_all.Tie as tie
 
 abbrev Inv-loop : tie.InvT-loop
-Inv-loop matrix world₀ p₀ world p = p ≤ 64
+Inv-loop plan world₀ p₀ world p = p ≤ 64
 
 abbrev μ-loop : tie.MeasureT-loop
-μ-loop matrix world₀ p₀ world p = 64 - p
+μ-loop plan world₀ p₀ world p = 64 - p
 
 pub input-all-spec : {M : Type 1} → statement M
 input-all-spec =

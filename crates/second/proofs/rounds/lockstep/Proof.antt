@@ -6,10 +6,10 @@ use Rattle.second.proofs.rounds.lockstep.Statement.{statement}
 use Rattle.second.proofs.rounds.lockstep.Tie as tie
 
 abbrev Inv-loop : tie.InvT-loop
-Inv-loop matrix world₀ rounds counter₀ world counter = counter ≤ rounds
+Inv-loop plan world₀ rounds counter₀ world counter = counter ≤ rounds
 
 abbrev μ-loop : tie.MeasureT-loop
-μ-loop matrix world₀ rounds counter₀ world counter = rounds - counter
+μ-loop plan world₀ rounds counter₀ world counter = rounds - counter
 
 pub lockstep-spec : {M : Type 1} → statement M
 lockstep-spec =

@@ -7,10 +7,10 @@ use Rattle.second.proofs.rounds.mean.Statement.{statement}
 use Rattle.second.proofs.rounds.mean.Tie as tie
 
 abbrev Inv-loop : tie.InvT-loop
-Inv-loop matrix world slot p sum₀ neighbours₀ q₀ sum neighbours q = (sum ≤ 65535 * (q + 1)) × (neighbours ≤ q) × (q ≤ 64)
+Inv-loop plan world slot p sum₀ neighbours₀ q₀ sum neighbours q = (sum ≤ 65535 * (q + 1)) × (neighbours ≤ q) × (q ≤ 64)
 
 abbrev μ-loop : tie.MeasureT-loop
-μ-loop matrix world slot p sum₀ neighbours₀ q₀ sum neighbours q = 64 - q
+μ-loop plan world slot p sum₀ neighbours₀ q₀ sum neighbours q = 64 - q
 
 pub mean-spec : {M : Type 1} → statement M
 mean-spec =
