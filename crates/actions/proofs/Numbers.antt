@@ -16,10 +16,6 @@ use Rattle.actions.specs.Kinds.{numberOf, kinds, indexOf, kindAt}
 use Rattle.actions.specs.Table.{placeOf}
 use Rattle.actions.specs.Records.{namesOf, bodyOf, bodyTable}
 
--- a value by cases on a kind that is known: the shape of a `returns` need in a `match` on a kind
-pub told : {A B : Type 0} (f : A → B) {k j : A} {x : B} → k ≡ j → x ≡ f j → x ≡ f k
-told f e p = p ∙ sym (ap f e)
-
 -- each kind stands in the table, at its index
 pub seated : (k : Kind) → (indexOf k < length kinds) × (kindAt (indexOf k) ≡ k)
 unfolding indexOf numberOf kindAt

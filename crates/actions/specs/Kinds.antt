@@ -69,3 +69,7 @@ count k x = record { 0 = k; 1 = x }
 -- where a count stands in the array of counts: each kind has a row of 256
 unfoldable pub cellOf : Counter → ℕ
 cellOf c = indexOf (c .0) * 256 + c .1
+
+-- how often the action of that count was taken
+abbrev pub countIn : List ℕ → Counter → ℕ
+countIn counts c = getD counts (cellOf c) 0

@@ -21,14 +21,14 @@ use Rattle.actions.specs.declared.Kind.{Kind}
 use Rattle.actions.specs.declared.Place as Kinds
 use Rattle.actions.specs.declared.Does.{Does}
 use Rattle.actions.specs.Table.{placeOf, everyOf, doesOf}
-use Rattle.actions.specs.Kinds.{kindAt}
+use Rattle.actions.specs.Kinds.{kindAt, countIn}
 use Rattle.actions.proofs.Numbers.{every-kind}
+use Rattle.queue.specs.Queue.{headOf, roomAnswer, queues}
 use Rattle.synchronizer.specs.declared.State.{State}
 use Rattle.synchronizer.specs.Wires as Wires
 use Rattle.synchronizer.specs.Wires.{wiresOf, lanesOf, laneIn}
 use Rattle.synchronizer.specs.Answer as Code
-use Rattle.synchronizer.specs.Answer.{countIn, standsIn, startsRound, countAnswer, everyHas, headOf, roomAnswer, queueAnswer, ownIn, legalAnswer, needAnswer, answerIn, answerOf}
-use Rattle.synchronizer.specs.After.{queues}
+use Rattle.synchronizer.specs.Answer.{standsIn, startsRound, countAnswer, everyHas, queueAnswer, ownIn, legalAnswer, needAnswer, answerIn, answerOf}
 use Rattle.synchronizer.specs.Valid.{StateClauses}
 use Rattle.automaton.specs.Actions.{Act, Place, aNode, aLink, aPreferredLink, aChild, aRoot, bodyOf}
 use Rattle.automaton.specs.Network.{isRoot}

@@ -13,12 +13,11 @@ use Rattle.laws.proofs.Choice.{true-not-false}
 use Rattle.network.specs.declared.Network.{Network}
 use Rattle.network.specs.Valid.{validNetwork}
 use Rattle.actions.specs.declared.Does.{Does}
-use Rattle.actions.specs.Kinds.{cellOf}
+use Rattle.actions.specs.Kinds.{cellOf, countIn}
 use Rattle.actions.specs.Table.{doesOf}
 use Rattle.actions.proofs.Cells.{cell-inside}
 use Rattle.synchronizer.specs.declared.State.{State}
 use Rattle.synchronizer.specs.Wires.{Wires, wiresOf, laneIn}
-use Rattle.synchronizer.specs.Answer.{countIn}
 use Rattle.synchronizer.specs.After.{effectIn, counted, afterIn, afterOf}
 use Rattle.synchronizer.specs.Valid.{Sized}
 use Rattle.automaton.specs.Actions.{Act, same, bodyOf}

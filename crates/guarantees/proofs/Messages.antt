@@ -11,9 +11,10 @@ use Rattle.laws.proofs.Choice.{ifB-yes, true-not-false}
 use Rattle.network.specs.declared.Network.{Network}
 use Rattle.network.specs.Valid.{validNetwork}
 use Rattle.actions.specs.Table.{doesOf}
+use Rattle.queue.specs.Queue.{Queues, queues, pushed, popped}
 use Rattle.synchronizer.specs.declared.State.{State}
 use Rattle.synchronizer.specs.Wires.{wiresOf, lanesOf, laneIn}
-use Rattle.synchronizer.specs.After.{Queues, queues, pushed, popped, effectIn, counted, afterIn, afterOf}
+use Rattle.synchronizer.specs.After.{effectIn, counted, afterIn, afterOf}
 use Rattle.synchronizer.specs.Valid.{StateClauses, Sized}
 use Rattle.automaton.specs.Actions.{Act, same, decided, packetSent, packetDelivered, ackSent, ackDelivered, bodyOf}
 use Rattle.automaton.specs.Global.{Msg, packet, ack}

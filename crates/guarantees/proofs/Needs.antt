@@ -18,12 +18,12 @@ use Rattle.actions.specs.declared.Kind.{Kind}
 use Rattle.actions.specs.declared.Kind.the-variants.{PacketSent, PacketDelivered, AckSent, ClusterOk, DownDelivered, PreferredSent, ClusterGo, SubtreeGoDelivered}
 use Rattle.actions.specs.declared.Counter.{Counter}
 use Rattle.actions.specs.declared.Every.{Every}
-use Rattle.actions.specs.Kinds.{count}
+use Rattle.actions.specs.Kinds.{count, countIn}
 use Rattle.actions.specs.Table.{placeOf, knowsBy, mayGoBy, needOf}
 use Rattle.synchronizer.specs.declared.State.{State}
 use Rattle.synchronizer.specs.Wires as Wires
 use Rattle.synchronizer.specs.Wires.{wiresOf, lanesOf, laneIn, aroundOf}
-use Rattle.synchronizer.specs.Answer.{countIn, childrenHave, sendersHave, everyHas}
+use Rattle.synchronizer.specs.Answer.{childrenHave, sendersHave, everyHas}
 use Rattle.automaton.specs.Actions.{Act, output, packetSent, packetDelivered, ackSent, ackDelivered, ok, subtreeOkSent, subtreeOkDelivered, clusterOk}
 use Rattle.automaton.specs.Actions.{downSent, downDelivered, preferredSent, preferredDelivered, upSent, upDelivered, clusterGo}
 use Rattle.automaton.specs.Actions.{subtreeGoSent, subtreeGoDelivered, go, input, bodyOf}

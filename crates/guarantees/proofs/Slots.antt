@@ -15,10 +15,12 @@ use Rattle.laws.proofs.Choice.{ifB-yes, ifLt-yes, true-not-false}
 use Rattle.network.specs.declared.Network.{Network}
 use Rattle.network.specs.Valid.{validNetwork}
 use Rattle.actions.specs.Table.{doesOf}
+use Rattle.actions.specs.Kinds.{countIn}
+use Rattle.queue.specs.Queue.{queues}
 use Rattle.synchronizer.specs.declared.State.{State}
 use Rattle.synchronizer.specs.Wires.{wiresOf}
-use Rattle.synchronizer.specs.Answer.{countIn, ownIn}
-use Rattle.synchronizer.specs.After.{queues, effectIn, counted, afterIn, afterOf}
+use Rattle.synchronizer.specs.Answer.{ownIn}
+use Rattle.synchronizer.specs.After.{effectIn, counted, afterIn, afterOf}
 use Rattle.synchronizer.specs.Valid.{StateClauses, Sized}
 use Rattle.automaton.specs.Actions.{same, packetDelivered, bodyOf}
 use Rattle.automaton.specs.Global.{Global, parity}

@@ -20,7 +20,7 @@ use Rattle.lockstep.proofs.Rounds.{lockstep-start, rounds-at}
 use Rattle.actions.specs.Kinds.{kinds, cellOf}
 use Rattle.synchronizer.specs.declared.Done.{Done}
 use Rattle.synchronizer.specs.Start.{freshWith, startOf}
-use Rattle.synchronizer.proofs.Entries.{repeated-at}
+use Rattle.laws.proofs.Entries.{repeated-at}
 use Rattle.automaton.specs.Network.{neighbours}
 use Rattle.automaton.specs.Global.{begin}
 use Rattle.automaton.specs.Lockstep.{lockstep}

@@ -14,10 +14,9 @@ use lib.Seq.{getD-set-same, getD-set-other}
 use Rattle.laws.specs.Choice.{ifB, ifEq}
 use Rattle.laws.specs.Below.{listBelow}
 use Rattle.laws.proofs.Choice.{ifLt-yes, ifEq-yes, ifEq-no}
-use Rattle.synchronizer.specs.declared.Head.{Head}
+use Rattle.queue.specs.declared.Head.{Head}
+use Rattle.queue.specs.Queue.{headOf, Queues, queues, pushed, movedUp, popped}
 use Rattle.synchronizer.specs.Answer as Code
-use Rattle.synchronizer.specs.Answer.{headOf}
-use Rattle.synchronizer.specs.After.{Queues, queues, pushed, movedUp, popped}
 use Rattle.automaton.specs.Global.{Msg, packet, ack}
 use Rattle.automaton.specs.Answer.{must, packetAtFront, ackAtFront}
 use Rattle.automaton.specs.Run.{carried}

@@ -18,14 +18,14 @@ use Rattle.network.specs.declared.Network.{Network}
 use Rattle.network.specs.Valid.{validNetwork}
 use Rattle.actions.specs.declared.Kind.{Kind}
 use Rattle.actions.specs.declared.Place.{Place}
-use Rattle.actions.specs.Kinds.{kinds, numberOf, indexOf, kindAt, count, cellOf}
+use Rattle.actions.specs.Kinds.{kinds, numberOf, indexOf, kindAt, count, cellOf, countIn}
 use Rattle.actions.specs.Table.{placeOf}
 use Rattle.actions.specs.Records.{namesOf}
 use Rattle.actions.specs.Records as Records
 use Rattle.actions.proofs.Numbers.{number-at}
+use Rattle.ranges.specs.Fits.{usedBy}
 use Rattle.synchronizer.specs.declared.State.{State}
-use Rattle.synchronizer.specs.Answer.{countIn}
-use Rattle.synchronizer.specs.Valid.{usedBy, validState, StateClauses, Sized}
+use Rattle.synchronizer.specs.Valid.{validState, StateClauses, Sized}
 use Rattle.synchronizer.proofs.States.{valid-state-clauses}
 use Rattle.automaton.specs.Actions.{Act}
 use Rattle.automaton.specs.Global.{packet, ack}

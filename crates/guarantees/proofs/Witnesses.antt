@@ -27,8 +27,8 @@ use Rattle.actions.specs.Kinds.{numberOf, indexOf, kindAt, cellOf}
 use Rattle.actions.specs.Table.{placeOf, ownOf, knowsBy, mayGoBy, needOf, everyOf, doesOf}
 use Rattle.actions.specs.Records.{namesOf, bodyOf, actAt, readAt as actions-readAt}
 use Rattle.synchronizer.specs.Wires.{joined, lanesOf, wiresOf, isRoot, aroundOf}
-use Rattle.synchronizer.specs.Answer.{standsIn, startsRound, countAnswer, childrenHave, sendersHave, everyHas, headOf, packetFirst, ackFirst, roomAnswer, queueAnswer, ownIn, legalAnswer, needAnswer, answerIn}
-use Rattle.synchronizer.specs.After.{pushed, movedUp, popped, meanHeard, effectIn, counted, afterIn}
+use Rattle.synchronizer.specs.Answer.{standsIn, startsRound, countAnswer, childrenHave, sendersHave, everyHas, queueAnswer, ownIn, legalAnswer, needAnswer, answerIn}
+use Rattle.synchronizer.specs.After.{meanHeard, effectIn, counted, afterIn}
 use Rattle.synchronizer.specs.Start.{freshWith, startOf}
 use Rattle.synchronizer.specs.Entry.{inRange, doneIn, doneOf, actedAs, recordIn, actIn, actOf, listFrom, listOf}
 use lib.ListN.{set, replicate}
@@ -36,6 +36,7 @@ use Rattle.network.specs.declared.Network.{Network}
 use Rattle.actions.specs.declared.Kind.{Kind}
 use Rattle.actions.specs.declared.Kind.the-variants.{Output, PacketSent}
 use Rattle.actions.specs.Kinds.{count, kinds}
+use Rattle.queue.specs.Queue.{headOf, packetFirst, ackFirst, roomAnswer, pushed, movedUp, popped}
 use Rattle.synchronizer.specs.declared.State.{State}
 use Rattle.synchronizer.specs.declared.Ran.{Ran}
 use Rattle.synchronizer.specs.After.{stateOf}

@@ -7,10 +7,9 @@ use Rattle.laws.specs.Choice.{ifEq}
 use Rattle.network.specs.declared.Network.{Network}
 use Rattle.actions.specs.declared.Kind.{Kind}
 use Rattle.actions.specs.declared.Kind.the-variants.{Output, Input}
-use Rattle.actions.specs.Kinds.{count}
+use Rattle.actions.specs.Kinds.{count, countIn}
 use Rattle.actions.specs.Records.{bodyOf}
 use Rattle.synchronizer.specs.declared.State.{State}
-use Rattle.synchronizer.specs.Answer.{countIn}
 use Rattle.synchronizer.specs.Entry.{doneOf, actOf, listOf}
 
 pub data Step : Type 0 where

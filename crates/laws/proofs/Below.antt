@@ -249,4 +249,9 @@ module _ {A : Type 0} (f : ℕ → A) where
   list-is n xs d e h =
       ext-getD d xs (listBelow f n) (e ∙ sym (length-list n)) (λ k l. h k (omega arith) ∙ sym (list-at n k d (omega arith)))
 
+-- every entry replaced
+pub over-all : {A : Type 0} (f : ℕ → A) (n : ℕ) (xs : List A) (d : A) → length xs ≡ n → overBelow f n xs ≡ listBelow f n
+over-all f n xs d e =
+    list-is f n (overBelow f n xs) d (length-over f n xs ∙ e) (λ k h. over-below f n xs k d h (omega arith))
+
 pub ruleset aboves = (all-start, all-more, all-fails, all-end, first-start, first-more, first-found, first-end)

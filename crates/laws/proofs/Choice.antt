@@ -3,7 +3,7 @@
 -- Assumes nothing.
 use Prim.Native.Nat.{ℕ, _<_, _≤_}
 use native.Mathlib.Omega.{arith}
-use mathlib.Core.Path.{_≡_, refl, sym, _∙_, subst}
+use mathlib.Core.Path.{_≡_, refl, sym, _∙_, ap, subst}
 use mathlib.Core.Bool.{Bool, true, false}
 use lib.Dec.{ltb, eqb}
 use borrow.Author.Tests.{lt-ltb, le-ltb, le-leb, lt-leb, eq-eqb, ne-eqb, ltb-true, ltb-false, eqb-true, eqb-false}
@@ -114,3 +114,8 @@ pub true-not-false : (t : Bool) → t ≡ true → t ≡ false → ⊥
 true-not-false t p q =
     let z : _≡_ {A = ℕ} 0 1 = cc in
     omega arith
+
+-- ---- by cases on what is known: the shape of a `returns` need in a `match`
+
+pub told : {A B : Type 0} (f : A → B) {k j : A} {x : B} → k ≡ j → x ≡ f j → x ≡ f k
+told f e p = p ∙ sym (ap f e)

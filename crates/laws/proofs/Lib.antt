@@ -1,3 +1,5 @@
 pub mod Below
 pub mod Choice
+pub mod Entries
+pub mod Faults
 pub mod Picked

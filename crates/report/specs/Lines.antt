@@ -5,8 +5,7 @@ use Prim.Native.Nat.{ℕ, zero, suc}
 use mathlib.Core.List.{List, [], _∷_, _++_}
 use lib.ListN.{getD}
 use Rattle.actions.specs.declared.Kind.{Kind}
-use Rattle.actions.specs.Kinds.{count}
-use Rattle.synchronizer.specs.Answer.{countIn}
+use Rattle.actions.specs.Kinds.{count, countIn}
 use Rattle.text.specs.Lines.{line}
 
 -- `plan`

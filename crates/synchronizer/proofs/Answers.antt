@@ -10,12 +10,13 @@ use Rattle.laws.specs.Choice.{ifB, ifLt, ifEq}
 use Rattle.laws.proofs.Choice.{ifB-yes, ifB-no, ifLt-yes, ifLt-no, ifEq-yes, ifEq-no, lt-elim, eq-elim}
 use Rattle.actions.specs.declared.Kind.{Kind}
 use Rattle.actions.specs.declared.Kind.the-variants.{Output, Input}
-use Rattle.actions.specs.Kinds.{count}
+use Rattle.actions.specs.Kinds.{count, countIn}
 use Rattle.actions.specs.Table.{placeOf, ownOf, needOf, everyOf, doesOf}
+use Rattle.queue.specs.Queue.{headOf}
 use Rattle.synchronizer.specs.declared.State.{State}
 use Rattle.synchronizer.specs.declared.test.Shown.{Shown}
 use Rattle.synchronizer.specs.Wires.{Wires, laneIn, isRoot, aroundOf}
-use Rattle.synchronizer.specs.Answer.{countIn, standsIn, startsRound, countAnswer, everyHas, headOf, queueAnswer, ownIn, legalAnswer, needAnswer, answerIn}
+use Rattle.synchronizer.specs.Answer.{standsIn, startsRound, countAnswer, everyHas, queueAnswer, ownIn, legalAnswer, needAnswer, answerIn}
 use Rattle.synchronizer.specs.Shown.{plainAnswer, Shows, TestShows}
 use Rattle.synchronizer.proofs.Rows.{shows-as}
 

@@ -5,10 +5,10 @@ use mathlib.Core.Path.{_≡_, refl, sym, _∙_, ap}
 use mathlib.Core.List.{List}
 use lib.ListN.{getD, set}
 use Rattle.actions.specs.declared.Does.{Does}
+use Rattle.queue.specs.Queue.{packet, ack, Queues, queues, pushed, popped}
 use Rattle.synchronizer.specs.declared.State.{State}
 use Rattle.synchronizer.specs.Wires.{Wires}
-use Rattle.synchronizer.specs.Answer.{packet, ack}
-use Rattle.synchronizer.specs.After.{stateOf, Queues, queues, pushed, popped, slotAt, meanHeard, effectIn}
+use Rattle.synchronizer.specs.After.{stateOf, slotAt, meanHeard, effectIn}
 
 -- the effect of a kind of effect that is known
 pub effect-told : (w : Wires) (does known : Does) (p d i : ℕ) (s t : State) → does ≡ known → t ≡ effectIn w known p d i s → t ≡ effectIn w does p d i s

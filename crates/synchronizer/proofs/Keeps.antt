@@ -20,7 +20,7 @@ use Rattle.network.proofs.Valid.{valid-limits, valid-rest}
 use Rattle.actions.specs.declared.Kind.{Kind}
 use Rattle.actions.specs.declared.Does.{Does}
 use Rattle.actions.specs.declared.Record.{Record}
-use Rattle.actions.specs.Kinds.{kinds, indexOf, kindAt, count, cellOf}
+use Rattle.actions.specs.Kinds.{kinds, indexOf, kindAt, count, cellOf, countIn}
 use Rattle.actions.specs.Table.{placeOf, needOf, doesOf}
 use Rattle.actions.specs.Records.{namesOf, bodyOf, readAt}
 use Rattle.actions.proofs.Numbers.{every-kind, number-at}
@@ -30,12 +30,14 @@ use Rattle.synchronizer.specs.declared.Done.{Done}
 use Rattle.synchronizer.specs.declared.Acted.{Acted}
 use Rattle.synchronizer.specs.declared.Ran.{Ran}
 use Rattle.synchronizer.specs.Wires.{Wires, wiresOf, laneIn, aroundOf}
-use Rattle.synchronizer.specs.Answer.{countIn, packet, ack, startsRound, ownIn, answerOf}
-use Rattle.synchronizer.specs.After.{stateOf, Queues, queues, pushed, slotAt, meanHeard, effectIn, counted, afterIn, afterOf}
+use Rattle.synchronizer.specs.Answer.{startsRound, ownIn, answerOf}
+use Rattle.synchronizer.specs.After.{stateOf, slotAt, meanHeard, effectIn, counted, afterIn, afterOf}
 use Rattle.synchronizer.specs.Start.{freshWith, startOf}
 use Rattle.synchronizer.specs.Entry.{done, inRange, doneIn, doneOf, actedAs, recordIn, actIn, actOf, listFrom, listOf}
-use Rattle.synchronizer.specs.Valid.{usedBy, entryFits, loadFits, pastFits, validState, Sized}
-use Rattle.synchronizer.proofs.Entries.{set-keeps-at, repeated-at}
+use Rattle.synchronizer.specs.Valid.{validState, Sized}
+use Rattle.laws.proofs.Entries.{set-keeps-at, repeated-at}
+use Rattle.queue.specs.Queue.{packet, ack, Queues, queues, pushed}
+use Rattle.ranges.specs.Fits.{usedBy, entryFits, loadFits, pastFits}
 use Rattle.synchronizer.proofs.States.{Message, a-packet, an-ack, entry-of, entry-most, sort-of, load-of, past-of, Passes, valid-passes, passes-valid, used-at-most-256}
 use Rattle.synchronizer.proofs.Turns.{refused-done, refused-act}
 use Rattle.synchronizer.proofs.Waiting.{QueuesSound, pushed-keeps, popped-keeps}

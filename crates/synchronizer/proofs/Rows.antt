@@ -9,9 +9,8 @@ use Rattle.laws.specs.Choice.{ifLt}
 use Rattle.laws.proofs.Choice.{ifB-yes, ifB-no, ifLt-yes, ifLt-no}
 use Rattle.actions.specs.declared.Kind.{Kind}
 use Rattle.actions.specs.declared.Counter.{Counter}
-use Rattle.actions.specs.Kinds.{count}
+use Rattle.actions.specs.Kinds.{count, countIn}
 use Rattle.synchronizer.specs.declared.test.Shown.{Shown}
-use Rattle.synchronizer.specs.Answer.{countIn}
 use Rattle.synchronizer.specs.Shown.{plainAnswer, Shows, RowShows}
 
 module _ (counts : List ℕ) (k : Kind) (x : ℕ) (r : Shown) where

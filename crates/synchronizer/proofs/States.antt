@@ -19,13 +19,13 @@ use Rattle.network.specs.declared.Network.{Network}
 use Rattle.network.specs.Valid.{validNetwork}
 use Rattle.network.proofs.Valid.{valid-limits}
 use Rattle.actions.specs.declared.Kind.{Kind}
-use Rattle.actions.specs.Kinds.{kinds, indexOf, kindAt, count}
+use Rattle.actions.specs.Kinds.{kinds, indexOf, kindAt, count, countIn}
 use Rattle.actions.specs.Records.{bodyOf}
 use Rattle.actions.proofs.Numbers.{seated}
+use Rattle.queue.specs.Queue.{packet, ack, Queues, queues}
+use Rattle.ranges.specs.Fits.{usedBy, entryFits, rowFits, countsFit, lengthsFit, sortFits, sortsFit, loadFits, loadsFit, pastFits, restFits, stateFits}
 use Rattle.synchronizer.specs.declared.State.{State}
-use Rattle.synchronizer.specs.Answer.{countIn, packet, ack}
-use Rattle.synchronizer.specs.After.{Queues, queues}
-use Rattle.synchronizer.specs.Valid.{usedBy, entryFits, rowFits, countsFit, lengthsFit, sortFits, sortsFit, loadFits, loadsFit, pastFits, restFits, stateFits, validState, StateClauses}
+use Rattle.synchronizer.specs.Valid.{validState, StateClauses}
 
 -- ---- the tests of one entry, and what each says
 

@@ -18,13 +18,14 @@ use Rattle.network.proofs.Sets.{link-set-from}
 use Rattle.network.proofs.Valid.{valid-limits, neighbours-kept, preferred-kept}
 use Rattle.actions.specs.declared.Kind.{Kind}
 use Rattle.actions.specs.declared.Place.{Place}
-use Rattle.actions.specs.Kinds.{count}
+use Rattle.actions.specs.Kinds.{count, countIn}
 use Rattle.actions.specs.Table.{placeOf, ownOf, needOf, everyOf, doesOf}
 use Rattle.actions.specs.Records.{namesOf, bodyOf}
+use Rattle.queue.specs.Queue.{headOf}
+use Rattle.ranges.specs.Fits.{usedBy}
 use Rattle.synchronizer.specs.declared.State.{State}
 use Rattle.synchronizer.specs.Wires.{Wires, joined, lanesOf, wiresOf, laneIn, isRoot, aroundOf}
-use Rattle.synchronizer.specs.Answer.{countIn, standsIn, startsRound, countAnswer, everyHas, headOf, queueAnswer, ownIn, legalAnswer, needAnswer, answerIn}
-use Rattle.synchronizer.specs.Valid.{usedBy}
+use Rattle.synchronizer.specs.Answer.{standsIn, startsRound, countAnswer, everyHas, queueAnswer, ownIn, legalAnswer, needAnswer, answerIn}
 
 -- ---- a choice of answers that comes to 0
 

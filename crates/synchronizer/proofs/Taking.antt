@@ -12,11 +12,11 @@ use Rattle.actions.specs.declared.Kind.{Kind}
 use Rattle.actions.specs.declared.Kind.the-variants.{Output, PacketSent, PacketDelivered, AckSent, AckDelivered, Ok, SubtreeOkSent, SubtreeOkDelivered, ClusterOk, DownSent, DownDelivered, PreferredSent, PreferredDelivered, UpSent, UpDelivered, ClusterGo, SubtreeGoSent, SubtreeGoDelivered, Go, Input}
 use Rattle.actions.specs.declared.Place.{Place}
 use Rattle.actions.specs.declared.Does.{Does}
-use Rattle.actions.specs.Kinds.{count, cellOf}
+use Rattle.actions.specs.Kinds.{count, cellOf, countIn}
 use Rattle.actions.specs.Table.{placeOf, ownOf, doesOf}
 use Rattle.synchronizer.specs.declared.State.{State}
 use Rattle.synchronizer.specs.Wires.{Wires, hearing, laneIn}
-use Rattle.synchronizer.specs.Answer.{countIn, ownIn, needAnswer, answerIn}
+use Rattle.synchronizer.specs.Answer.{ownIn, needAnswer, answerIn}
 use Rattle.synchronizer.specs.After.{stateOf, effectIn, counted, afterIn}
 use Rattle.synchronizer.specs.Shown.{seen}
 use Rattle.synchronizer.specs.Entry.{done, doneIn}

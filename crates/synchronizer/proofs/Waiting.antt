@@ -10,9 +10,9 @@ use mathlib.Core.List.{List}
 use lib.ListN.{length, getD, set, length-set, List·getD-eq-default}
 use lib.Seq.{getD-set-other}
 use Rattle.laws.proofs.Choice.{lt-elim}
-use Rattle.synchronizer.specs.After.{Queues, queues, pushed, movedUp, popped}
-use Rattle.synchronizer.specs.Valid.{entryFits, sortFits, loadFits}
-use Rattle.synchronizer.proofs.Entries.{set-keeps-at, set-here}
+use Rattle.laws.proofs.Entries.{set-keeps-at, set-here}
+use Rattle.queue.specs.Queue.{Queues, queues, pushed, movedUp, popped}
+use Rattle.ranges.specs.Fits.{entryFits, sortFits, loadFits}
 use Rattle.synchronizer.proofs.States.{Message, entry-of, entry-most, entry-out, sort-in, sort-out, sort-of, load-of, QueuesPass}
 
 -- how long the queues' arrays are

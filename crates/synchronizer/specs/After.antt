@@ -1,53 +1,25 @@
 -- The state after an action that is taken: "its count then becomes i", and what the action does besides.
 -- Assumes nothing.
-use Prim.Native.Nat.{ℕ, _+_, _-_, _*_, _%_}
+use Prim.Native.Nat.{ℕ, _+_, _*_, _%_}
 use mathlib.Core.List.{List}
 use lib.ListN.{getD, set}
-use Rattle.laws.specs.Choice.{ifLt}
 use Rattle.network.specs.declared.Network.{Network}
 use Rattle.nodeset.specs.Marks.{valuesIn}
 use Rattle.lockstep.specs.Rule.{ruleOf}
 use Rattle.actions.specs.declared.Kind.{Kind}
 use Rattle.actions.specs.declared.Counter.{Counter}
 use Rattle.actions.specs.declared.Does.{Does}
-use Rattle.actions.specs.Kinds.{cellOf}
+use Rattle.actions.specs.Kinds.{cellOf, countIn}
 use Rattle.actions.specs.Table.{doesOf}
+use Rattle.queue.specs.Queue.{packet, ack, Queues, queues, pushed, popped}
 use Rattle.synchronizer.specs.declared.State.{State}
 use Rattle.synchronizer.specs.Wires.{Wires, wiresOf, laneIn}
-use Rattle.synchronizer.specs.Answer.{countIn, packet, ack, ownIn}
+use Rattle.synchronizer.specs.Answer.{ownIn}
 
 -- a state of its arrays
 abbrev pub stateOf : List ℕ → List ℕ → List ℕ → List ℕ → List ℕ → List ℕ → State
 stateOf counts lens sorts loads slots values =
     record { counts = counts; lens = lens; sorts = sorts; loads = loads; slots = slots; values = values }
-
--- the queues of all directions: how many wait, and the sort and the value of each
-pub record Queues : Type 0 where
-  pub lens : List ℕ
-  pub sorts : List ℕ
-  pub loads : List ℕ
-
-abbrev pub queues : List ℕ → List ℕ → List ℕ → Queues
-queues lens sorts loads = record { lens = lens; sorts = sorts; loads = loads }
-
--- a message joins the queue of direction d at its end: "first in first out, .. with room for two", so a third would not enter
-unfoldable pub pushed : Queues → ℕ → ℕ → ℕ → Queues
-pushed u d sort load =
-    ifLt n 2 (queues (set (u .lens) d (n + 1)) (set (u .sorts) (d * 2 + n) sort) (set (u .loads) (d * 2 + n) load)) u
-  where
-    n : ℕ
-    n = getD (u .lens) d 0
-
--- the second entry moves up, and its place is cleared
-unfoldable pub movedUp : List ℕ → ℕ → List ℕ
-movedUp xs d = set (set xs (d * 2) (getD xs (d * 2 + 1) 0)) (d * 2 + 1) 0
-
--- the first message of direction d leaves the queue
-unfoldable pub popped : Queues → ℕ → Queues
-popped u d = ifLt 0 n (queues (set (u .lens) d (n - 1)) (movedUp (u .sorts) d) (movedUp (u .loads) d)) u
-  where
-    n : ℕ
-    n = getD (u .lens) d 0
 
 -- "of odd and of even rounds": the slot of direction d for round i
 abbrev pub slotAt : ℕ → ℕ → ℕ

@@ -1,7 +1,7 @@
 -- The answer to an action: 0 where it is taken, else the first of 13, 14, 15, 16, 18 that applies. The table of what each action names, needs
 -- and does is that of the crate `actions`; this file says when a row of it holds. Nothing here changes a state.
 -- Assumes nothing.
-use Prim.Native.Nat.{ℕ, _*_}
+use Prim.Native.Nat.{ℕ}
 use mathlib.Core.Bool.{Bool, true, false, not}
 use mathlib.Core.List.{List}
 use lib.Dec.{ltb}
@@ -14,15 +14,12 @@ use Rattle.actions.specs.declared.Place.{Place}
 use Rattle.actions.specs.declared.Counter.{Counter}
 use Rattle.actions.specs.declared.Every.{Every}
 use Rattle.actions.specs.declared.Does.{Does}
-use Rattle.actions.specs.Kinds.{count, cellOf}
+use Rattle.actions.specs.Kinds.{count, countIn}
 use Rattle.actions.specs.Table.{placeOf, ownOf, needOf, everyOf, doesOf}
-use Rattle.synchronizer.specs.declared.Head.{Head}
+use Rattle.queue.specs.declared.Head.{Head}
+use Rattle.queue.specs.Queue.{headOf, packetFirst, ackFirst, roomAnswer}
 use Rattle.synchronizer.specs.declared.State.{State}
 use Rattle.synchronizer.specs.Wires.{Wires, wiresOf, laneIn, isRoot, aroundOf}
-
--- how often the action of that count was taken
-abbrev pub countIn : List ℕ → Counter → ℕ
-countIn counts c = getD counts (cellOf c) 0
 
 -- not 14: "no such link, link not preferred (27, 28), a root where a parent is needed, no root for 24, 31"
 unfoldable pub standsIn : Place → ℕ → ℕ → ℕ → Bool → Bool
@@ -62,35 +59,6 @@ everyHas (Every.Neighbour k) counts lanes p n neighbours children preferred = se
 everyHas (Every.Child k) counts lanes p n neighbours children preferred = childrenHave counts k n children
 everyHas (Every.ChildAndPreferred k j) counts lanes p n neighbours children preferred =
     both (childrenHave counts k n children) (sendersHave counts lanes j p n preferred)
-
--- the sorts of a waiting message
-abbrev pub packet : ℕ
-packet = 1
-
-abbrev pub ack : ℕ
-ack = 2
-
--- the first message of direction d
-unfoldable pub headOf : List ℕ → List ℕ → List ℕ → ℕ → Head
-headOf lens sorts loads d =
-    ifEq (getD lens d 0) 0 Head.Empty
-    (ifEq (getD sorts (d * 2) 0) packet (Head.Packet (getD loads (d * 2) 0))
-    (ifEq (getD sorts (d * 2) 0) ack Head.Ack Head.Empty))
-
--- "A delivery whose waiting message is of the other sort is not enabled"
-unfoldable pub packetFirst : Head → ℕ
-packetFirst (Head.Packet v) = 0
-packetFirst Head.Ack = 16
-packetFirst Head.Empty = 16
-
-unfoldable pub ackFirst : Head → ℕ
-ackFirst (Head.Packet v) = 16
-ackFirst Head.Ack = 0
-ackFirst Head.Empty = 16
-
--- "kind 17 or 19 with two messages already queued"
-unfoldable pub roomAnswer : ℕ → ℕ
-roomAnswer len = ifLt len 2 0 18
 
 -- the answer by the queue of the direction from p to q
 unfoldable pub queueAnswer : Does → Head → ℕ → ℕ

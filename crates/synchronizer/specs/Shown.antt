@@ -7,11 +7,11 @@ use mathlib.Core.List.{List, []}
 use Rattle.laws.specs.Choice.{ifB, ifLt}
 use Rattle.actions.specs.declared.Kind.{Kind}
 use Rattle.actions.specs.declared.Counter.{Counter}
-use Rattle.actions.specs.Kinds.{count}
+use Rattle.actions.specs.Kinds.{count, countIn}
 use Rattle.synchronizer.specs.declared.State.{State}
 use Rattle.synchronizer.specs.declared.test.Shown.{Shown}
 use Rattle.synchronizer.specs.Wires.{Wires}
-use Rattle.synchronizer.specs.Answer.{countIn, ownIn, answerIn}
+use Rattle.synchronizer.specs.Answer.{ownIn, answerIn}
 use Rattle.synchronizer.specs.After.{stateOf}
 
 -- 14 where the nodes do not stand as the row asks; 16 where the count needed is short; else the rest of the row decides

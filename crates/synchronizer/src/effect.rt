@@ -1,14 +1,14 @@
 // What an action that is taken changes, besides its count.
 use crate::lanes::lane;
-use crate::queue::ACK;
-use crate::queue::PACKET;
-use crate::queue::pop;
-use crate::queue::push;
 use crate::test::test;
 use actions::Counter;
 use actions::Does;
 use actions::Kind;
 use nodeset::NodeSet;
+use queue::ACK;
+use queue::PACKET;
+use queue::pop;
+use queue::push;
 ghost use mathlib.Core.Path.{_≡_};
 ghost use mathlib.Core.Bool.{true};
 ghost use mathlib.Core.List.{List};

@@ -1,7 +1,6 @@
 // The synchronizer: a state by value, its start, the state half of answer 17, the twenty actions, one action from bytes and a list of them.
 mod effect;
 mod lanes;
-mod queue;
 mod runner;
 mod test;
 mod valid;
@@ -29,13 +28,6 @@ pub struct State {
     pub slots: [u16; 512],
     // each node's value
     pub values: [u16; 64],
-}
-
-// The first message of a queue.
-pub enum Head {
-    Packet(u16),
-    Ack,
-    Empty,
 }
 
 // An action's answer, and the state that follows it.

@@ -1,8 +1,8 @@
 -- `every_of`: each arm has its kind's entry of the table.
 -- Assumes nothing.
 use borrow.Author.Needs.{needs}
+use Rattle.laws.proofs.Choice.{told}
 use Rattle.actions.specs.Table.{everyOf}
-use Rattle.actions.proofs.Numbers.{told}
 use Rattle.actions.proofs.every_of.Statement.{statement}
 use Rattle.actions.proofs.every_of.Tie as tie
 

@@ -1,8 +1,8 @@
 -- `number`: each arm has its kind's number.
 -- Assumes nothing.
 use borrow.Author.Needs.{needs}
+use Rattle.laws.proofs.Choice.{told}
 use Rattle.actions.specs.Kinds.{numberOf}
-use Rattle.actions.proofs.Numbers.{told}
 use Rattle.actions.proofs.number.Statement.{statement}
 use Rattle.actions.proofs.number.Tie as tie
 

@@ -3,11 +3,11 @@
 use Prim.Native.Nat.{ℕ}
 use mathlib.Core.Path.{_≡_}
 use borrow.Author.Needs.{needs}
+use Rattle.laws.proofs.Choice.{told}
 use Rattle.actions.specs.declared.Kind.{Kind}
 use Rattle.actions.specs.declared.Place.{Place}
 use Rattle.actions.specs.declared.Counter.{Counter}
 use Rattle.actions.specs.Table.{ownOf}
-use Rattle.actions.proofs.Numbers.{told}
 use Rattle.actions.proofs.own_of.Statement.{statement}
 use Rattle.actions.proofs.own_of.Tie as tie
 

@@ -1,8 +1,8 @@
 -- `place_of`: each arm has its kind's entry of the table.
 -- Assumes nothing.
 use borrow.Author.Needs.{needs}
+use Rattle.laws.proofs.Choice.{told}
 use Rattle.actions.specs.Table.{placeOf}
-use Rattle.actions.proofs.Numbers.{told}
 use Rattle.actions.proofs.place_of.Statement.{statement}
 use Rattle.actions.proofs.place_of.Tie as tie
 

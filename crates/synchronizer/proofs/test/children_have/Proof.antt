@@ -4,8 +4,8 @@
 use native.Mathlib.Omega.{arith}
 use mathlib.Core.Path.{_≡_, sym, _∙_}
 use lib.Dec.{ltb}
-use Rattle.actions.specs.Kinds.{count}
-use Rattle.synchronizer.specs.Answer.{countIn, childrenHave}
+use Rattle.actions.specs.Kinds.{count, countIn}
+use Rattle.synchronizer.specs.Answer.{childrenHave}
 use Rattle.synchronizer.proofs.Walks.{lowest-low, walk-less, walk-on, walk-stops, walk-ends}
 use borrow.Author.Needs.{needs}
 use Rattle.synchronizer.proofs.test.children_have.Statement.{statement}

@@ -4,9 +4,9 @@
 use native.Mathlib.Omega.{arith}
 use mathlib.Core.Path.{_≡_, sym, _∙_}
 use lib.Dec.{ltb}
-use Rattle.actions.specs.Kinds.{count}
+use Rattle.actions.specs.Kinds.{count, countIn}
 use Rattle.synchronizer.specs.Wires.{laneIn}
-use Rattle.synchronizer.specs.Answer.{countIn, sendersHave}
+use Rattle.synchronizer.specs.Answer.{sendersHave}
 use Rattle.synchronizer.proofs.Walks.{lowest-low, walk-less, walk-on, walk-stops, walk-ends}
 use borrow.Author.Needs.{needs}
 use Rattle.synchronizer.proofs.test.senders_have.Statement.{statement}

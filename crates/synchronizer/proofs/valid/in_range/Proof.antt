@@ -1,6 +1,7 @@
--- `in_range`: the network's half first, which bounds its nodes and links for the state's half.
+-- `in_range`: the network's half first, which bounds its nodes and links, so that each fits a byte for the state's half.
 -- Assumes nothing.
 use borrow.Author.Needs.{needs}
+use native.Mathlib.Omega.{arith}
 use mathlib.Core.Path.{refl, sym, _∙_}
 use Rattle.laws.proofs.Choice.{both-on, both-off}
 use Rattle.network.proofs.Valid.{valid-limits}
@@ -9,10 +10,13 @@ use Rattle.synchronizer.specs.Entry.{inRange}
 use Rattle.synchronizer.proofs.valid.in_range.Statement.{statement}
 use Rattle.synchronizer.proofs.valid.in_range.Tie as tie
 
-state-fits-requires : tie.Need-state-fits-requires
-state-fits-requires c κs =
-    let l = valid-limits (c .before .before .args .net) (sym (c .before .valid .ensures) ∙ c .if1 .taken) in
-    (l .at-most-64-nodes, l .at-most-128-links)
+cast-state-fits : tie.Need-cast-state-fits
+cast-state-fits c =
+    omega (arith, valid-limits (c .before .before .args .net) (sym (c .before .valid .ensures) ∙ c .if1 .taken) .at-most-64-nodes)
+
+cast-state-fits-2 : tie.Need-cast-state-fits-2
+cast-state-fits-2 c =
+    omega (arith, valid-limits (c .before .before .args .net) (sym (c .before .valid .ensures) ∙ c .if1 .taken) .at-most-128-links)
 
 returns : tie.Need-returns
 unfolding inRange validState
@@ -23,4 +27,4 @@ unfolding inRange
 returns-2 c = both-off _ _ _ (sym (c .before .valid .ensures) ∙ c .if1 .left) refl
 
 pub in-range-spec : {M : Type 1} → statement M
-in-range-spec = tie.close (tie.spec (λ c κs. search needs) state-fits-requires returns returns-2)
+in-range-spec = tie.close (tie.spec (λ c κs. search needs) cast-state-fits cast-state-fits-2 (λ c κs. search needs) returns returns-2)
