@@ -1,5 +1,5 @@
 //! clock RUN PLAN: nanoseconds of one trial in the proved library and in plain.rs, the run less the plan alone. Both are called in this one
-//! process, in turn, a hundred times each; of each the shortest counts, since what else the machine does can only add. Nothing is cleared between calls.
+//! process, in turn, a thousand times each; of each the shortest counts, since what else the machine does can only add. Nothing is cleared between calls.
 use std::hint::black_box;
 use std::time::Instant;
 
@@ -25,7 +25,7 @@ fn nanoseconds(call: impl FnOnce()) -> u128 {
 fn shortest(bytes: &[u8]) -> [u128; 2] {
     let (mut page, mut text) = ([0; 2048], String::new());
     let mut best = [u128::MAX; 2];
-    for _ in 0..100 {
+    for _ in 0..1000 {
         text.clear();
         let mut count = 0;
         best[0] = best[0].min(nanoseconds(|| count = proved(black_box(bytes), &mut page)));
