@@ -82,6 +82,8 @@ use Rattle.actions.proofs.every_of.Kinds as actions-every-of-kinds
 use Rattle.actions.proofs.every_of.Reads as actions-every-of-reads
 use Rattle.actions.proofs.does_of.Kinds as actions-does-of-kinds
 use Rattle.actions.proofs.does_of.Reads as actions-does-of-reads
+use Rattle.actions.proofs.bodies.Kinds as actions-bodies-kinds
+use Rattle.actions.proofs.bodies.Reads as actions-bodies-reads
 use Rattle.actions.proofs.read.Kinds as actions-read-kinds
 use Rattle.actions.proofs.read.Reads as actions-read-reads
 use Rattle.synchronizer.proofs.State.start.Kinds as synchronizer-start-kinds
@@ -285,6 +287,9 @@ actions-every-of-one κs a x y s t p q = same p q
 
 pub actions-does-of-one : OneResult _ actions-does-of-kinds.ps actions-does-of-kinds.r actions-does-of-reads.Post
 actions-does-of-one κs a x y s t p q = same p q
+
+pub actions-bodies-one : OneResult _ actions-bodies-kinds.ps actions-bodies-kinds.r actions-bodies-reads.Post
+actions-bodies-one κs a x y s t p q = same p q
 
 pub actions-read-one : OneResult _ actions-read-kinds.ps actions-read-kinds.r actions-read-reads.Post
 actions-read-one κs a x y s t p q = same p q
