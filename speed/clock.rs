@@ -1,5 +1,6 @@
 //! clock RUN PLAN: nanoseconds of one trial in the proved library and in plain.rs, the run less the plan alone. Both are called in this one
-//! process, in turn, a thousand times each; of each the shortest counts, since what else the machine does can only add. Nothing is cleared between calls.
+//! process, in turn, a thousand times each; of each the shortest counts, since what else the machine does can only add. Nothing is cleared
+//! between calls.
 use std::hint::black_box;
 use std::time::Instant;
 

@@ -1,5 +1,6 @@
 #!/usr/bin/env python3
-"""table.py: rows of the table of docs/SPEED.md, and how the cost grows, from lines `NODES, LINKS ACTIONS BENCH PLAIN NS NS` (the last two of a run)."""
+"""table.py: the rows of the table of docs/SPEED.md, and how the cost grows, from lines `NODES, LINKS ACTIONS BENCH PLAIN NS NS`: instructions an
+action, and nanoseconds of the whole list."""
 import sys
 
 rows = []
