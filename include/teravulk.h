@@ -24,8 +24,8 @@ extern "C" {
  * give equal text.
  *
  * It keeps nothing between calls, allocates nothing, calls nothing but memcpy and memset, and writes to no memory but `out` and its own stack. So
- * any number of threads may call it at once, each with an `out` of its own. It needs 93 KB of stack, the same for every trial (measured; the
- * callers of examples/run have 128 KB).
+ * any number of threads may call it at once, each with an `out` of its own. It takes at most 93 KB of stack. These are not proved but checked:
+ * examples/run looks for the archive's data and calls, and has the callers run in 128 KB of stack.
  *
  * What the caller owes: neither pointer is NULL, also where its length is 0; `bytes` can be read and `out` read and written for the lengths given;
  * the two do not overlap; and nothing else writes to either, or reads `out`, during the call. */
