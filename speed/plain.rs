@@ -319,7 +319,7 @@ fn act(net: &Network, state: &mut State, bytes: &[u8]) -> Result<usize, u32> {
     }
 }
 
-fn trial(bytes: &[u8], out: &mut String) {
+pub fn trial(bytes: &[u8], out: &mut String) {
     use std::fmt::Write;
     if bytes.len() > 65_536 {
         out.push_str("end 19 65536\n");
@@ -357,6 +357,7 @@ fn trial(bytes: &[u8], out: &mut String) {
     let _ = writeln!(out, "taken {taken}\nend {answer} {at}");
 }
 
+#[allow(dead_code)]
 fn main() -> std::io::Result<()> {
     let mut bytes = Vec::new();
     std::io::stdin().take(65_537).read_to_end(&mut bytes)?;

@@ -82,6 +82,8 @@ use Rattle.actions.proofs.every_of.Kinds as actions-every-of-kinds
 use Rattle.actions.proofs.every_of.Reads as actions-every-of-reads
 use Rattle.actions.proofs.does_of.Kinds as actions-does-of-kinds
 use Rattle.actions.proofs.does_of.Reads as actions-does-of-reads
+use Rattle.actions.proofs.bodies.Kinds as actions-bodies-kinds
+use Rattle.actions.proofs.bodies.Reads as actions-bodies-reads
 use Rattle.actions.proofs.read.Kinds as actions-read-kinds
 use Rattle.actions.proofs.read.Reads as actions-read-reads
 use Rattle.synchronizer.proofs.State.start.Kinds as synchronizer-start-kinds
@@ -130,6 +132,14 @@ use Rattle.synchronizer.proofs.State.act.Kinds as synchronizer-act-kinds
 use Rattle.synchronizer.proofs.State.act.Reads as synchronizer-act-reads
 use Rattle.synchronizer.proofs.State.run.Kinds as synchronizer-run-kinds
 use Rattle.synchronizer.proofs.State.run.Reads as synchronizer-run-reads
+use Rattle.text.proofs.word.Kinds as text-word-kinds
+use Rattle.text.proofs.word.Reads as text-word-reads
+use Rattle.text.proofs.line.Kinds as text-line-kinds
+use Rattle.text.proofs.line.Reads as text-line-reads
+use Rattle.report.proofs.trial.Kinds as report-trial-kinds
+use Rattle.report.proofs.trial.Reads as report-trial-reads
+use Rattle.teravulk.proofs.teravulk_trial.Kinds as teravulk-trial-kinds
+use Rattle.teravulk.proofs.teravulk_trial.Reads as teravulk-trial-reads
 
 -- of the same arguments the contract allows one result
 abbrev pub OneResult : (n : ℕ) (ps : List (PK n)) (r : RK n) → Out n ps r → Type 0
@@ -278,6 +288,9 @@ actions-every-of-one κs a x y s t p q = same p q
 pub actions-does-of-one : OneResult _ actions-does-of-kinds.ps actions-does-of-kinds.r actions-does-of-reads.Post
 actions-does-of-one κs a x y s t p q = same p q
 
+pub actions-bodies-one : OneResult _ actions-bodies-kinds.ps actions-bodies-kinds.r actions-bodies-reads.Post
+actions-bodies-one κs a x y s t p q = same p q
+
 pub actions-read-one : OneResult _ actions-read-kinds.ps actions-read-kinds.r actions-read-reads.Post
 actions-read-one κs a x y s t p q = same p q
 
@@ -351,3 +364,17 @@ synchronizer-act-one κs a x y s t p q = same p q
 
 pub synchronizer-run-one : OneResult _ synchronizer-run-kinds.ps synchronizer-run-kinds.r synchronizer-run-reads.Post
 synchronizer-run-one κs a x y s t p q = same p q
+
+-- ---- text, report, teravulk
+
+pub text-word-one : OneEnd _ text-word-kinds.ps text-word-kinds.r text-word-reads.Post (λ κs s. now (s .0))
+text-word-one κs a x y s t p q = (same (p .place) (q .place), same (p .held) (q .held))
+
+pub text-line-one : OneEnd _ text-line-kinds.ps text-line-kinds.r text-line-reads.Post (λ κs s. now (s .0))
+text-line-one κs a x y s t p q = (same (p .place) (q .place), same (p .held) (q .held))
+
+pub report-trial-one : OneEnd _ report-trial-kinds.ps report-trial-kinds.r report-trial-reads.Post (λ κs s. now (s .1 .0))
+report-trial-one κs a x y s t p q = (same (p .count) (q .count), same (p .held) (q .held))
+
+pub teravulk-trial-one : OneEnd _ teravulk-trial-kinds.ps teravulk-trial-kinds.r teravulk-trial-reads.Post (λ κs s. now (s .1 .0))
+teravulk-trial-one κs a x y s t p q = (same (p .0) (q .0), same (p .1 .0) (q .1 .0))
