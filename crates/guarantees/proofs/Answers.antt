@@ -27,7 +27,7 @@ use Rattle.queue.specs.Queue.{headOf, roomAnswer, queues}
 use Rattle.synchronizer.specs.declared.State.{State}
 use Rattle.synchronizer.specs.Wires as Wires
 use Rattle.synchronizer.specs.Wires.{wiresOf, lanesOf, laneIn}
-use Rattle.synchronizer.specs.Answer as Code
+use Rattle.queue.specs.Queue as Code
 use Rattle.synchronizer.specs.Answer.{standsIn, startsRound, countAnswer, everyHas, queueAnswer, ownIn, legalAnswer, needAnswer, answerIn, answerOf}
 use Rattle.synchronizer.specs.Valid.{StateClauses}
 use Rattle.automaton.specs.Actions.{Act, Place, aNode, aLink, aPreferredLink, aChild, aRoot, bodyOf}

@@ -2,12 +2,13 @@
 -- contract as the checker generates it (`Post` of the function's `Reads`), so that a loosened contract breaks its line here.
 -- Assumes nothing.
 use Prim.Native.Nat.{ℕ}
-use mathlib.Core.Path.{_≡_, sym, _∙_}
+use mathlib.Core.Path.{_≡_, refl, sym, _∙_}
 use mathlib.Core.List.{List}
 use contract.Lifetimes.{Lfts}
 use denote.Ref.{now}
 use denote.Triple.Clauses.{AtExit}
 use borrow.Fn.Kinds.{PK, RK, Out, Dens, resT, endedOf}
+use Rattle.queue.specs.Queue.{queues}
 use Rattle.nodeset.proofs.NodeSet.contains.Kinds as nodeset-contains-kinds
 use Rattle.nodeset.proofs.NodeSet.contains.Reads as nodeset-contains-reads
 use Rattle.nodeset.proofs.NodeSet.insert.Kinds as nodeset-insert-kinds
@@ -86,6 +87,20 @@ use Rattle.actions.proofs.bodies.Kinds as actions-bodies-kinds
 use Rattle.actions.proofs.bodies.Reads as actions-bodies-reads
 use Rattle.actions.proofs.read.Kinds as actions-read-kinds
 use Rattle.actions.proofs.read.Reads as actions-read-reads
+use Rattle.queue.proofs.first.Kinds as queue-first-kinds
+use Rattle.queue.proofs.first.Reads as queue-first-reads
+use Rattle.queue.proofs.packet_first.Kinds as queue-packet-first-kinds
+use Rattle.queue.proofs.packet_first.Reads as queue-packet-first-reads
+use Rattle.queue.proofs.ack_first.Kinds as queue-ack-first-kinds
+use Rattle.queue.proofs.ack_first.Reads as queue-ack-first-reads
+use Rattle.queue.proofs.room.Kinds as queue-room-kinds
+use Rattle.queue.proofs.room.Reads as queue-room-reads
+use Rattle.queue.proofs.push.Kinds as queue-push-kinds
+use Rattle.queue.proofs.push.Reads as queue-push-reads
+use Rattle.queue.proofs.pop.Kinds as queue-pop-kinds
+use Rattle.queue.proofs.pop.Reads as queue-pop-reads
+use Rattle.ranges.proofs.state_fits.Kinds as ranges-state-fits-kinds
+use Rattle.ranges.proofs.state_fits.Reads as ranges-state-fits-reads
 use Rattle.synchronizer.proofs.State.start.Kinds as synchronizer-start-kinds
 use Rattle.synchronizer.proofs.State.start.Reads as synchronizer-start-reads
 use Rattle.synchronizer.proofs.State.output.Kinds as synchronizer-output-kinds
@@ -293,6 +308,29 @@ actions-bodies-one κs a x y s t p q = same p q
 
 pub actions-read-one : OneResult _ actions-read-kinds.ps actions-read-kinds.r actions-read-reads.Post
 actions-read-one κs a x y s t p q = same p q
+
+-- ---- queue, ranges
+
+pub queue-first-one : OneResult _ queue-first-kinds.ps queue-first-kinds.r queue-first-reads.Post
+queue-first-one κs a x y s t p q = same p q
+
+pub queue-packet-first-one : OneResult _ queue-packet-first-kinds.ps queue-packet-first-kinds.r queue-packet-first-reads.Post
+queue-packet-first-one κs a x y s t p q = same p q
+
+pub queue-ack-first-one : OneResult _ queue-ack-first-kinds.ps queue-ack-first-kinds.r queue-ack-first-reads.Post
+queue-ack-first-one κs a x y s t p q = same p q
+
+pub queue-room-one : OneResult _ queue-room-kinds.ps queue-room-kinds.r queue-room-reads.Post
+queue-room-one κs a x y s t p q = same p q
+
+pub queue-push-one : OneEnd _ queue-push-kinds.ps queue-push-kinds.r queue-push-reads.Post (λ κs s. queues (now (s .0)) (now (s .1 .0)) (now (s .1 .1 .0)))
+queue-push-one κs a x y s t p q = (refl, same p q)
+
+pub queue-pop-one : OneEnd _ queue-pop-kinds.ps queue-pop-kinds.r queue-pop-reads.Post (λ κs s. queues (now (s .0)) (now (s .1 .0)) (now (s .1 .1 .0)))
+queue-pop-one κs a x y s t p q = (refl, same p q)
+
+pub ranges-state-fits-one : OneResult _ ranges-state-fits-kinds.ps ranges-state-fits-kinds.r ranges-state-fits-reads.Post
+ranges-state-fits-one κs a x y s t p q = same p q
 
 -- ---- synchronizer
 

@@ -16,7 +16,7 @@ use Rattle.laws.specs.Below.{listBelow}
 use Rattle.laws.proofs.Choice.{ifLt-yes, ifEq-yes, ifEq-no}
 use Rattle.queue.specs.declared.Head.{Head}
 use Rattle.queue.specs.Queue.{headOf, Queues, queues, pushed, movedUp, popped}
-use Rattle.synchronizer.specs.Answer as Code
+use Rattle.queue.specs.Queue as Code
 use Rattle.automaton.specs.Global.{Msg, packet, ack}
 use Rattle.automaton.specs.Answer.{must, packetAtFront, ackAtFront}
 use Rattle.automaton.specs.Run.{carried}
