@@ -19,10 +19,11 @@ use Rattle.network.proofs.Valid.{valid-limits}
 use Rattle.lockstep.specs.Rule.{ruleOf}
 use Rattle.actions.specs.Table.{doesOf}
 use Rattle.actions.specs.Kinds.{countIn}
+use Rattle.queue.specs.Queue.{slotAt}
 use Rattle.synchronizer.specs.declared.State.{State}
 use Rattle.synchronizer.specs.Wires.{wiresOf, lanesOf, laneIn}
 use Rattle.synchronizer.specs.Answer.{ownIn}
-use Rattle.synchronizer.specs.After.{slotAt, meanHeard, effectIn, counted, afterIn, afterOf}
+use Rattle.synchronizer.specs.After.{meanHeard, effectIn, counted, afterIn, afterOf}
 use Rattle.synchronizer.specs.Valid.{StateClauses, Sized}
 use Rattle.automaton.specs.Actions.{same, input, bodyOf}
 use Rattle.automaton.specs.Global.{parity}

@@ -1,6 +1,6 @@
--- "Each direction of a link is one queue, first in first out, shared by packets and acks, with room for two."
+-- "Each direction of a link is one queue, first in first out, shared by packets and acks, with room for two." And what was heard last from it.
 -- Assumes nothing.
-use Prim.Native.Nat.{ℕ, _+_, _-_, _*_}
+use Prim.Native.Nat.{ℕ, _+_, _-_, _*_, _%_}
 use mathlib.Core.List.{List}
 use lib.ListN.{getD, set}
 use Rattle.laws.specs.Choice.{ifLt, ifEq}
@@ -62,3 +62,11 @@ popped u d = ifLt 0 n (queues (set (u .lens) d (n - 1)) (movedUp (u .sorts) d) (
   where
     n : ℕ
     n = getD (u .lens) d 0
+
+-- "of odd and of even rounds": the slot of direction d for round i
+abbrev pub slotAt : ℕ → ℕ → ℕ
+slotAt d i = d * 2 + i % 2
+
+-- "Delivery i puts it in the slot of i's parity": the value that the first message of direction d carries
+abbrev pub heardIn : List ℕ → List ℕ → ℕ → ℕ → List ℕ
+heardIn slots loads d i = set slots (slotAt d i) (getD loads (d * 2) 0)

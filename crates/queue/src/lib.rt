@@ -2,7 +2,7 @@
 // and 2 d + 1 of the arrays of sorts and loads.
 ghost use mathlib.Core.Path.{_≡_};
 ghost use lib.ListN.{getD};
-ghost use Rattle.queue.specs.Queue.{headOf, packetFirst, ackFirst, roomAnswer, queues, pushed, popped};
+ghost use Rattle.queue.specs.Queue.{headOf, packetFirst, ackFirst, roomAnswer, queues, pushed, popped, heardIn};
 
 pub const PACKET: u8 = 1;
 
@@ -100,4 +100,21 @@ pub fn pop(lens: &mut [u8; 256], sorts: &mut [u8; 512], loads: &mut [u16; 512], 
         loads[at] = loads[at + 1];
         loads[at + 1] = 0;
     }
+}
+
+// "Delivery i puts it in the slot of i's parity": the first message leaves, and its value is the last one heard of an odd or of an even round.
+pub fn deliver(
+    lens: &mut [u8; 256],
+    sorts: &mut [u8; 512],
+    loads: &mut [u16; 512],
+    slots: &mut [u16; 512],
+    d: u8,
+    i: u16,
+)
+    ensures left { λ _. ⌜ queues (now (lens .exit)) (now (sorts .exit)) (now (loads .exit)) ≡ popped (queues (now (lens .entry)) (now (sorts .entry)) (now (loads .entry))) d ⌝ }
+    ensures heard { λ _. ⌜ now (slots .exit) ≡ heardIn (now (slots .entry)) (now (loads .entry)) d i ⌝ }
+{
+    let at = (d as usize) * 2;
+    slots[at + (i % 2) as usize] = loads[at];
+    pop(lens, sorts, loads, d);
 }

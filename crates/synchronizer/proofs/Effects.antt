@@ -1,14 +1,14 @@
 -- What an effect changes: by its kind of effect, and the queues as a whole.
 -- Assumes nothing.
-use Prim.Native.Nat.{ℕ, _*_}
+use Prim.Native.Nat.{ℕ}
 use mathlib.Core.Path.{_≡_, refl, sym, _∙_, ap}
 use mathlib.Core.List.{List}
 use lib.ListN.{getD, set}
 use Rattle.actions.specs.declared.Does.{Does}
-use Rattle.queue.specs.Queue.{packet, ack, Queues, queues, pushed, popped}
+use Rattle.queue.specs.Queue.{packet, ack, Queues, queues, pushed, popped, heardIn}
 use Rattle.synchronizer.specs.declared.State.{State}
 use Rattle.synchronizer.specs.Wires.{Wires}
-use Rattle.synchronizer.specs.After.{stateOf, slotAt, meanHeard, effectIn}
+use Rattle.synchronizer.specs.After.{stateOf, meanHeard, effectIn}
 
 -- the effect of a kind of effect that is known
 pub effect-told : (w : Wires) (does known : Does) (p d i : ℕ) (s t : State) → does ≡ known → t ≡ effectIn w known p d i s → t ≡ effectIn w does p d i s
@@ -40,10 +40,10 @@ module _ (w : Wires) (p d i : ℕ) (counts lens sorts loads slots values : List 
     unfolding effectIn
     sends-ack e = requeued slots lens′ sorts′ loads′ (pushed (queues lens sorts loads) d ack 0) e
 
-    pub takes-packet : queues lens′ sorts′ loads′ ≡ popped (queues lens sorts loads) d → stateOf counts lens′ sorts′ loads′ (set slots (slotAt d i) (getD loads (d * 2) 0)) values ≡ effectIn w Does.TakesPacket p d i before
+    pub takes-packet : (slots′ : List ℕ) → queues lens′ sorts′ loads′ ≡ popped (queues lens sorts loads) d → slots′ ≡ heardIn slots loads d i → stateOf counts lens′ sorts′ loads′ slots′ values ≡ effectIn w Does.TakesPacket p d i before
     unfolding effectIn
-    takes-packet e =
-        requeued (set slots (slotAt d i) (getD loads (d * 2) 0)) lens′ sorts′ loads′ (popped (queues lens sorts loads) d) e
+    takes-packet slots′ e h =
+        ap (λ x. stateOf counts lens′ sorts′ loads′ x values) h ∙ requeued (heardIn slots loads d i) lens′ sorts′ loads′ (popped (queues lens sorts loads) d) e
 
     pub takes-ack : queues lens′ sorts′ loads′ ≡ popped (queues lens sorts loads) d → stateOf counts lens′ sorts′ loads′ slots values ≡ effectIn w Does.TakesAck p d i before
     unfolding effectIn

@@ -31,12 +31,12 @@ use Rattle.synchronizer.specs.declared.Acted.{Acted}
 use Rattle.synchronizer.specs.declared.Ran.{Ran}
 use Rattle.synchronizer.specs.Wires.{Wires, wiresOf, laneIn, aroundOf}
 use Rattle.synchronizer.specs.Answer.{startsRound, ownIn, answerOf}
-use Rattle.synchronizer.specs.After.{stateOf, slotAt, meanHeard, effectIn, counted, afterIn, afterOf}
+use Rattle.synchronizer.specs.After.{stateOf, meanHeard, effectIn, counted, afterIn, afterOf}
 use Rattle.synchronizer.specs.Start.{freshWith, startOf}
 use Rattle.synchronizer.specs.Entry.{done, inRange, doneIn, doneOf, actedAs, recordIn, actIn, actOf, listFrom, listOf}
 use Rattle.synchronizer.specs.Valid.{validState, Sized}
 use Rattle.laws.proofs.Entries.{set-keeps-at, repeated-at}
-use Rattle.queue.specs.Queue.{packet, ack, Queues, queues, pushed}
+use Rattle.queue.specs.Queue.{packet, ack, Queues, queues, pushed, slotAt}
 use Rattle.ranges.specs.Fits.{usedBy, entryFits, loadFits, pastFits}
 use Rattle.synchronizer.proofs.States.{Message, a-packet, an-ack, entry-of, entry-most, sort-of, load-of, past-of, Passes, valid-passes, passes-valid, used-at-most-256}
 use Rattle.synchronizer.proofs.Turns.{refused-done, refused-act}

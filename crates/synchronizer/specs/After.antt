@@ -1,6 +1,6 @@
 -- The state after an action that is taken: "its count then becomes i", and what the action does besides.
 -- Assumes nothing.
-use Prim.Native.Nat.{ℕ, _+_, _*_, _%_}
+use Prim.Native.Nat.{ℕ, _+_}
 use mathlib.Core.List.{List}
 use lib.ListN.{getD, set}
 use Rattle.network.specs.declared.Network.{Network}
@@ -11,7 +11,7 @@ use Rattle.actions.specs.declared.Counter.{Counter}
 use Rattle.actions.specs.declared.Does.{Does}
 use Rattle.actions.specs.Kinds.{cellOf, countIn}
 use Rattle.actions.specs.Table.{doesOf}
-use Rattle.queue.specs.Queue.{packet, ack, Queues, queues, pushed, popped}
+use Rattle.queue.specs.Queue.{packet, ack, Queues, queues, pushed, popped, slotAt, heardIn}
 use Rattle.synchronizer.specs.declared.State.{State}
 use Rattle.synchronizer.specs.Wires.{Wires, wiresOf, laneIn}
 use Rattle.synchronizer.specs.Answer.{ownIn}
@@ -20,10 +20,6 @@ use Rattle.synchronizer.specs.Answer.{ownIn}
 abbrev pub stateOf : List ℕ → List ℕ → List ℕ → List ℕ → List ℕ → List ℕ → State
 stateOf counts lens sorts loads slots values =
     record { counts = counts; lens = lens; sorts = sorts; loads = loads; slots = slots; values = values }
-
--- "of odd and of even rounds": the slot of direction d for round i
-abbrev pub slotAt : ℕ → ℕ → ℕ
-slotAt d i = d * 2 + i % 2
 
 -- "(own value + the values in the slots of i's parity from each neighbour) divided by (1 + number of neighbours), the remainder dropped"
 unfoldable pub meanHeard : List ℕ → List ℕ → ℕ → ℕ → ℕ → ℕ → ℕ
@@ -44,7 +40,7 @@ module _ (w : Wires) where
   -- "Delivery i puts it in the slot of i's parity"
   effectIn Does.TakesPacket p d i s =
       let u : Queues = popped (queues (s .lens) (s .sorts) (s .loads)) d in
-      stateOf (s .counts) (u .lens) (u .sorts) (u .loads) (set (s .slots) (slotAt d i) (getD (s .loads) (d * 2) 0)) (s .values)
+      stateOf (s .counts) (u .lens) (u .sorts) (u .loads) (heardIn (s .slots) (s .loads) d i) (s .values)
   effectIn Does.TakesAck p d i s =
       let u : Queues = popped (queues (s .lens) (s .sorts) (s .loads)) d in
       stateOf (s .counts) (u .lens) (u .sorts) (u .loads) (s .slots) (s .values)

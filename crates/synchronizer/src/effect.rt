@@ -7,6 +7,7 @@ use actions::Kind;
 use nodeset::NodeSet;
 use queue::ACK;
 use queue::PACKET;
+use queue::deliver;
 use queue::pop;
 use queue::push;
 ghost use mathlib.Core.Path.{_≡_};
@@ -15,8 +16,9 @@ ghost use mathlib.Core.List.{List};
 ghost use Prim.Native.Nat.{ℕ, _<_, _≤_};
 ghost use lib.ListN.{getD};
 ghost use Rattle.nodeset.specs.Marks.{member};
+ghost use Rattle.queue.specs.Queue.{slotAt};
 ghost use Rattle.synchronizer.specs.Wires.{Below64, wires, hearing, laneIn};
-ghost use Rattle.synchronizer.specs.After.{stateOf, slotAt, meanHeard, effectIn};
+ghost use Rattle.synchronizer.specs.After.{stateOf, meanHeard, effectIn};
 ghost use Rattle.synchronizer.specs.Entry.{done, doneIn};
 
 // The packet of round i's parity that p heard last from q.
@@ -92,9 +94,7 @@ pub(crate) fn effect(
             push(lens, sorts, loads, d, ACK, 0);
         }
         Does::TakesPacket => {
-            let at = (d as usize) * 2;
-            slots[at + (i % 2) as usize] = loads[at];
-            pop(lens, sorts, loads, d);
+            deliver(lens, sorts, loads, slots, d, i);
         }
         Does::TakesAck => {
             pop(lens, sorts, loads, d);
