@@ -23,7 +23,8 @@ use Rattle.actions.specs.Table.{placeOf, knowsBy, mayGoBy, needOf}
 use Rattle.synchronizer.specs.declared.State.{State}
 use Rattle.synchronizer.specs.Wires as Wires
 use Rattle.synchronizer.specs.Wires.{wiresOf, lanesOf, laneIn, aroundOf}
-use Rattle.synchronizer.specs.Answer.{childrenHave, sendersHave, everyHas}
+use Rattle.counts.specs.Counts.{childrenHave}
+use Rattle.synchronizer.specs.Answer.{sendersHave, everyHas}
 use Rattle.automaton.specs.Actions.{Act, output, packetSent, packetDelivered, ackSent, ackDelivered, ok, subtreeOkSent, subtreeOkDelivered, clusterOk}
 use Rattle.automaton.specs.Actions.{downSent, downDelivered, preferredSent, preferredDelivered, upSent, upDelivered, clusterGo}
 use Rattle.automaton.specs.Actions.{subtreeGoSent, subtreeGoDelivered, go, input, bodyOf}

@@ -87,6 +87,12 @@ use Rattle.actions.proofs.bodies.Kinds as actions-bodies-kinds
 use Rattle.actions.proofs.bodies.Reads as actions-bodies-reads
 use Rattle.actions.proofs.read.Kinds as actions-read-kinds
 use Rattle.actions.proofs.read.Reads as actions-read-reads
+use Rattle.counts.proofs.below.Kinds as counts-below-kinds
+use Rattle.counts.proofs.below.Reads as counts-below-reads
+use Rattle.counts.proofs.above.Kinds as counts-above-kinds
+use Rattle.counts.proofs.above.Reads as counts-above-reads
+use Rattle.counts.proofs.children_have.Kinds as counts-children-have-kinds
+use Rattle.counts.proofs.children_have.Reads as counts-children-have-reads
 use Rattle.queue.proofs.first.Kinds as queue-first-kinds
 use Rattle.queue.proofs.first.Reads as queue-first-reads
 use Rattle.queue.proofs.packet_first.Kinds as queue-packet-first-kinds
@@ -99,6 +105,8 @@ use Rattle.queue.proofs.push.Kinds as queue-push-kinds
 use Rattle.queue.proofs.push.Reads as queue-push-reads
 use Rattle.queue.proofs.pop.Kinds as queue-pop-kinds
 use Rattle.queue.proofs.pop.Reads as queue-pop-reads
+use Rattle.queue.proofs.deliver.Kinds as queue-deliver-kinds
+use Rattle.queue.proofs.deliver.Reads as queue-deliver-reads
 use Rattle.ranges.proofs.state_fits.Kinds as ranges-state-fits-kinds
 use Rattle.ranges.proofs.state_fits.Reads as ranges-state-fits-reads
 use Rattle.synchronizer.proofs.State.start.Kinds as synchronizer-start-kinds
@@ -309,7 +317,16 @@ actions-bodies-one κs a x y s t p q = same p q
 pub actions-read-one : OneResult _ actions-read-kinds.ps actions-read-kinds.r actions-read-reads.Post
 actions-read-one κs a x y s t p q = same p q
 
--- ---- queue, ranges
+-- ---- counts, queue, ranges
+
+pub counts-below-one : OneResult _ counts-below-kinds.ps counts-below-kinds.r counts-below-reads.Post
+counts-below-one κs a x y s t p q = same (p .0) (q .0)
+
+pub counts-above-one : OneResult _ counts-above-kinds.ps counts-above-kinds.r counts-above-reads.Post
+counts-above-one κs a x y s t p q = same p q
+
+pub counts-children-have-one : OneResult _ counts-children-have-kinds.ps counts-children-have-kinds.r counts-children-have-reads.Post
+counts-children-have-one κs a x y s t p q = same p q
 
 pub queue-first-one : OneResult _ queue-first-kinds.ps queue-first-kinds.r queue-first-reads.Post
 queue-first-one κs a x y s t p q = same p q
@@ -328,6 +345,9 @@ queue-push-one κs a x y s t p q = (refl, same p q)
 
 pub queue-pop-one : OneEnd _ queue-pop-kinds.ps queue-pop-kinds.r queue-pop-reads.Post (λ κs s. queues (now (s .0)) (now (s .1 .0)) (now (s .1 .1 .0)))
 queue-pop-one κs a x y s t p q = (refl, same p q)
+
+pub queue-deliver-one : OneEnd _ queue-deliver-kinds.ps queue-deliver-kinds.r queue-deliver-reads.Post (λ κs s. (queues (now (s .0)) (now (s .1 .0)) (now (s .1 .1 .0)), now (s .1 .1 .1 .0)))
+queue-deliver-one κs a x y s t p q = (refl, λ i. (same (p .0) (q .0) i, same (p .1) (q .1) i))
 
 pub ranges-state-fits-one : OneResult _ ranges-state-fits-kinds.ps ranges-state-fits-kinds.r ranges-state-fits-reads.Post
 ranges-state-fits-one κs a x y s t p q = same p q

@@ -30,7 +30,8 @@ use Rattle.actions.specs.Records as actions
 use Rattle.queue.specs.Queue.{headOf, packetFirst, ackFirst, roomAnswer, pushed, movedUp, popped}
 use Rattle.synchronizer.specs.declared.Done.{Done}
 use Rattle.synchronizer.specs.Wires.{joined, lanesOf, wiresOf, isRoot, aroundOf}
-use Rattle.synchronizer.specs.Answer.{standsIn, startsRound, countAnswer, childrenHave, sendersHave, everyHas, queueAnswer, ownIn, legalAnswer, needAnswer, answerIn}
+use Rattle.counts.specs.Counts.{childrenHave}
+use Rattle.synchronizer.specs.Answer.{standsIn, startsRound, countAnswer, sendersHave, everyHas, queueAnswer, ownIn, legalAnswer, needAnswer, answerIn}
 use Rattle.synchronizer.specs.After.{meanHeard, effectIn, counted, afterIn}
 use Rattle.synchronizer.specs.Valid.{validState}
 use Rattle.synchronizer.specs.Start.{freshWith, startOf}

@@ -10,4 +10,3 @@ pub mod Taken
 pub mod Taking
 pub mod Turns
 pub mod Waiting
-pub mod Walks

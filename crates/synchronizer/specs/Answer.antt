@@ -16,6 +16,7 @@ use Rattle.actions.specs.declared.Every.{Every}
 use Rattle.actions.specs.declared.Does.{Does}
 use Rattle.actions.specs.Kinds.{count, countIn}
 use Rattle.actions.specs.Table.{placeOf, ownOf, needOf, everyOf, doesOf}
+use Rattle.counts.specs.Counts.{childrenHave}
 use Rattle.queue.specs.declared.Head.{Head}
 use Rattle.queue.specs.Queue.{headOf, packetFirst, ackFirst, roomAnswer}
 use Rattle.synchronizer.specs.declared.State.{State}
@@ -43,10 +44,6 @@ startsRound Does.Means = false
 -- output needs "i ≤ rounds", which is 15, and inputs "at least i − 1".
 unfoldable pub countAnswer : Bool → ℕ → ℕ → ℕ → ℕ
 countAnswer starts rounds n has = ifB starts (ifLt n rounds (ifLt has n 16 0) 15) (ifLt n has 0 16)
-
--- every child in the set has the count above n
-unfoldable pub childrenHave : List ℕ → Kind → ℕ → ℕ → Bool
-childrenHave counts k n set = allIn (λ c. ltb n (countIn counts (count k c))) set
 
 -- the count is above n on the direction to p from every node in the set
 unfoldable pub sendersHave : List ℕ → List ℕ → Kind → ℕ → ℕ → ℕ → Bool

@@ -8,6 +8,9 @@ use actions::Counter;
 use actions::Kind;
 use actions::knows;
 use actions::may_go;
+use counts::above;
+use counts::below;
+use counts::children_have;
 use nodeset::NodeSet;
 use queue::ack_first;
 use queue::packet_first;
@@ -24,20 +27,14 @@ ghost use Rattle.actions.specs.Table.{knowsBy, mayGoBy};
 ghost use Rattle.actions.specs.declared.Kind.the-variants.{Output, PacketSent, PacketDelivered, AckSent, AckDelivered, Ok, SubtreeOkSent, SubtreeOkDelivered, ClusterOk, DownSent, PreferredSent, PreferredDelivered, UpSent, UpDelivered, ClusterGo, SubtreeGoSent, Go, Input};
 ghost use Rattle.queue.specs.Queue.{headOf, packetFirst, ackFirst, roomAnswer};
 ghost use Rattle.synchronizer.specs.Wires.{Below64, wires, laneIn, isRoot};
-ghost use Rattle.synchronizer.specs.Answer.{countAnswer, childrenHave, sendersHave};
+ghost use Rattle.counts.specs.Counts.{childrenHave};
+ghost use Rattle.synchronizer.specs.Answer.{countAnswer, sendersHave};
 ghost use Rattle.synchronizer.specs.Shown.{Shows, RowShows, TestShows, seen};
 
 // An answer; and where it is 0, at which node or direction the action's own count stands.
 pub struct Shown {
     pub answer: u8,
     pub sub: u8,
-}
-
-// A count that is below another can rise.
-fn below(n: u16, has: u16) -> bool
-    ensures { λ r. ⌜ (r ≡ ltb n has) × (r ≡ true → n < 65535) ⌝ }
-{
-    n < has
 }
 
 // A row whose nodes stand as it asks.
@@ -109,31 +106,6 @@ fn link(
         return node(counts, kind, d, need, rest);
     }
     Shown { answer: 14, sub: 0 }
-}
-
-// The count is above n.
-fn above(counts: &[u16; 5120], n: u16, c: Counter) -> bool
-    ensures { λ r. ⌜ r ≡ ltb n (countIn (now (counts .entry)) c) ⌝ }
-{
-    let at = actions::cell(c);
-    n < counts[at]
-}
-
-// The word came from every child in the set.
-fn children_have(counts: &[u16; 5120], word: Kind, n: u16, set: NodeSet) -> bool
-    ensures { λ r. ⌜ r ≡ childrenHave (now (counts .entry)) word n (set .marks) ⌝ }
-{
-    let mut rest = set;
-    while 0 < rest.marks {
-        let c = rest.lowest() as u8;
-        if above(counts, n, Counter(word, c)) {
-            let others = rest.without_lowest();
-            rest = others;
-        } else {
-            return false;
-        }
-    }
-    true
 }
 
 // The word came to p from every node in the set.

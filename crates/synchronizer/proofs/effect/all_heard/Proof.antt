@@ -8,7 +8,7 @@ use mathlib.Core.List.{List}
 use lib.ListN.{length, getD, length-set}
 use Rattle.queue.specs.Queue.{slotAt}
 use Rattle.synchronizer.specs.Wires.{laneIn}
-use Rattle.synchronizer.proofs.Walks.{lowest-low, walk-less, Filled, fill-start, fill-on, fill-end}
+use Rattle.nodeset.proofs.Walks.{lowest-low, walk-less, Filled, fill-start, fill-on, fill-end}
 use borrow.Author.Needs.{needs}
 use Rattle.synchronizer.proofs.effect.all_heard.Statement.{statement}
 use Rattle.synchronizer.proofs.effect.all_heard.Tie as tie

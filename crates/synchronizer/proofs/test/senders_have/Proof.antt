@@ -7,7 +7,7 @@ use lib.Dec.{ltb}
 use Rattle.actions.specs.Kinds.{count, countIn}
 use Rattle.synchronizer.specs.Wires.{laneIn}
 use Rattle.synchronizer.specs.Answer.{sendersHave}
-use Rattle.synchronizer.proofs.Walks.{lowest-low, walk-less, walk-on, walk-stops, walk-ends}
+use Rattle.nodeset.proofs.Walks.{lowest-low, walk-less, walk-on, walk-stops, walk-ends}
 use borrow.Author.Needs.{needs}
 use Rattle.synchronizer.proofs.test.senders_have.Statement.{statement}
 use Rattle.synchronizer.proofs.test.senders_have.Tie as tie

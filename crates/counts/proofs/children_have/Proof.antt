@@ -5,11 +5,11 @@ use native.Mathlib.Omega.{arith}
 use mathlib.Core.Path.{_≡_, sym, _∙_}
 use lib.Dec.{ltb}
 use Rattle.actions.specs.Kinds.{count, countIn}
-use Rattle.synchronizer.specs.Answer.{childrenHave}
-use Rattle.synchronizer.proofs.Walks.{lowest-low, walk-less, walk-on, walk-stops, walk-ends}
+use Rattle.counts.specs.Counts.{childrenHave}
+use Rattle.nodeset.proofs.Walks.{lowest-low, walk-less, walk-on, walk-stops, walk-ends}
 use borrow.Author.Needs.{needs}
-use Rattle.synchronizer.proofs.test.children_have.Statement.{statement}
-use Rattle.synchronizer.proofs.test.children_have.Tie as tie
+use Rattle.counts.proofs.children_have.Statement.{statement}
+use Rattle.counts.proofs.children_have.Tie as tie
 
 abbrev Inv-loop : tie.InvT-loop
 Inv-loop counts word n rest₀ rest = childrenHave counts word n (rest₀ .marks) ≡ childrenHave counts word n (rest .marks)
