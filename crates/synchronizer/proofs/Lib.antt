@@ -2,11 +2,11 @@ pub mod Answers
 pub mod Directions
 pub mod Effects
 pub mod Entries
-pub mod Faults
 pub mod Heads
 pub mod InTurn
 pub mod Keeps
 pub mod Limits
+pub mod Past
 pub mod Ranges
 pub mod Rows
 pub mod States

@@ -6,7 +6,7 @@ use mathlib.Core.Path.{_≡_, _∙_, ap}
 use lib.Dec.{leb, eqb}
 use lib.ListN.{getD}
 use Rattle.laws.specs.Below.{allBelow}
-use Rattle.synchronizer.proofs.Faults.{faults-start, faults-more, faults-end}
+use Rattle.laws.proofs.Faults.{faults-start, faults-more, faults-end}
 use Rattle.synchronizer.proofs.valid.each_fits.Statement.{statement}
 use Rattle.synchronizer.proofs.valid.each_fits.Tie as tie
 

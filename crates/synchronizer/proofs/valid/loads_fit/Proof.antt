@@ -7,7 +7,7 @@ use lib.Dec.{eqb}
 use lib.ListN.{getD}
 use Rattle.laws.specs.Below.{allBelow}
 use Rattle.synchronizer.specs.Valid.{loadFits, loadsFit}
-use Rattle.synchronizer.proofs.Faults.{faults-start, faults-more, faults-end}
+use Rattle.laws.proofs.Faults.{faults-start, faults-more, faults-end}
 use Rattle.synchronizer.proofs.valid.loads_fit.Statement.{statement}
 use Rattle.synchronizer.proofs.valid.loads_fit.Tie as tie
 

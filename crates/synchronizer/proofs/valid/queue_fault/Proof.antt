@@ -2,7 +2,7 @@
 -- Assumes nothing.
 use borrow.Author.Needs.{needs}
 use Rattle.synchronizer.specs.Valid.{sortFits}
-use Rattle.synchronizer.proofs.Faults.{faults-or}
+use Rattle.laws.proofs.Faults.{faults-or}
 use Rattle.synchronizer.proofs.valid.queue_fault.Statement.{statement}
 use Rattle.synchronizer.proofs.valid.queue_fault.Tie as tie
 

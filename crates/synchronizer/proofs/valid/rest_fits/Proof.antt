@@ -7,7 +7,8 @@ use lib.Dec.{eqb}
 use lib.ListN.{getD}
 use Rattle.laws.specs.Below.{allBelow}
 use Rattle.synchronizer.specs.Valid.{pastFits, restFits}
-use Rattle.synchronizer.proofs.Faults.{faults-more, faults-end, past-start, past-entry}
+use Rattle.laws.proofs.Faults.{faults-more, faults-end}
+use Rattle.synchronizer.proofs.Past.{past-start, past-entry}
 use Rattle.synchronizer.proofs.valid.rest_fits.Statement.{statement}
 use Rattle.synchronizer.proofs.valid.rest_fits.Tie as tie
 

@@ -8,7 +8,7 @@ use lib.ListN.{getD}
 use Rattle.laws.specs.Below.{allBelow}
 use Rattle.laws.specs.Choice.{both}
 use Rattle.synchronizer.specs.Valid.{sortFits, sortsFit}
-use Rattle.synchronizer.proofs.Faults.{faults-start, faults-more, faults-end}
+use Rattle.laws.proofs.Faults.{faults-start, faults-more, faults-end}
 use Rattle.synchronizer.proofs.valid.sorts_fit.Statement.{statement}
 use Rattle.synchronizer.proofs.valid.sorts_fit.Tie as tie
 

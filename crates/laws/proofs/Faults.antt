@@ -6,17 +6,14 @@ use native.Mathlib.Nat.{le-antisymm}
 use native.Mathlib.Numerals.{add-one}
 use native.Mathlib.Omega.{arith}
 use mathlib.Core.Path.{_≡_, sym, _∙_, ap, ap₂}
-use mathlib.Core.Bool.{Bool, true}
-use mathlib.Core.List.{List}
+use mathlib.Core.Bool.{Bool}
 use lib.Dec.{eqb}
-use lib.Bits.{bitOr, or-zero-l, or-add-and, and-le-l, and-le-r}
-use lib.ListN.{getD}
+use lib.Bits.{bitOr, bitXor, or-zero-l, or-add-and, xor-add-and, xor-self, and-le-l, and-le-r}
 use borrow.Author.Tests.{eqb-true, eq-eqb}
 use Rattle.laws.specs.Choice.{both}
 use Rattle.laws.specs.Below.{allBelow}
-use Rattle.laws.proofs.Choice.{ifLt-yes, ifLt-no, both-yes, both-left, both-right, same-test}
-use Rattle.laws.proofs.Below.{all-start, all-of}
-use Rattle.synchronizer.specs.Valid.{pastFits}
+use Rattle.laws.proofs.Choice.{both-yes, both-left, both-right, same-test}
+use Rattle.laws.proofs.Below.{all-start}
 
 -- ---- one more fault
 
@@ -30,6 +27,13 @@ faults-or f g s t p q =
     (λ e. let (a, b) = or-0 f g (eqb-true (bitOr f g) 0 e) in both-yes s t (sym p ∙ eq-eqb f 0 a) (sym q ∙ eq-eqb g 0 b))
     (λ e. let a : f ≡ 0 = eqb-true f 0 (p ∙ both-left s t e) in let b : g ≡ 0 = eqb-true g 0 (q ∙ both-right s t e) in eq-eqb (bitOr f g) 0 (ap₂ bitOr a b ∙ or-zero-l 0))
 
+-- two numbers differ in no digit exactly where they are the same
+pub faults-xor : (a b : ℕ) → eqb (bitXor a b) 0 ≡ eqb a b
+faults-xor a b =
+    same-test (eqb (bitXor a b) 0) (eqb a b)
+    (λ e. let none : bitXor a b ≡ 0 = eqb-true (bitXor a b) 0 e in eq-eqb a b (omega (arith, none, xor-add-and a b, and-le-l a b, and-le-r a b)))
+    (λ e. let same : a ≡ b = eqb-true a b e in eq-eqb (bitXor a b) 0 (ap (bitXor a) (sym same) ∙ xor-self a))
+
 module _ (t : ℕ → Bool) where
   pub faults-start : eqb 0 0 ≡ allBelow t 0
   faults-start = sym (all-start t)
@@ -40,14 +44,3 @@ module _ (t : ℕ → Bool) where
 
   pub faults-end : (n i f : ℕ) → eqb f 0 ≡ allBelow t i → i ≤ n → n ≤ i → eqb f 0 ≡ allBelow t n
   faults-end n i f p a b = p ∙ ap (allBelow t) (le-antisymm a b)
-
--- ---- entries past those in use
-
--- before the first that is not in use nothing is asked
-pub past-start : (used : ℕ) (xs : List ℕ) → eqb 0 0 ≡ allBelow (λ x. pastFits used x (getD xs x 0)) used
-unfolding pastFits
-past-start used xs = sym (all-of _ used (λ x h. ifLt-yes x used true (eqb (getD xs x 0) 0) h))
-
-pub past-entry : (used x n : ℕ) → used ≤ x → eqb n 0 ≡ pastFits used x n
-unfolding pastFits
-past-entry used x n h = sym (ifLt-no x used true (eqb n 0) h)
