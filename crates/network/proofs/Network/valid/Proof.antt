@@ -1,4 +1,4 @@
--- `Network::valid`: the tests are the definition's, in its order.
+-- `Network::valid`: the tests are the definition's, in its order; within the limits both counts fit into a byte.
 -- Assumes nothing.
 use borrow.Author.Needs.{needs}
 use mathlib.Core.Path.{sym, _∙_}
@@ -28,22 +28,12 @@ returns-4 : tie.Need-returns-4
 unfolding validNetwork
 returns-4 c = rw (← c .before .within-limits .ensures) (search (needs, picks))
 
-cast-n : tie.Need-cast-n
-cast-n c =
-    let lim = limits-of (c .before .before .before .before .before .before .before .args .self) (sym (c .before .within-limits .ensures) ∙ c .if1 .taken) in
-    search (needs, lim)
-
-cast-m : tie.Need-cast-m
-cast-m c =
-    let lim = limits-of (c .before .before .before .before .before .before .before .args .self) (sym (c .before .within-limits .ensures) ∙ c .if1 .taken) in
-    search (needs, lim)
-
 pub valid-spec : {M : Type 1} → statement M
 valid-spec =
     tie.close
     (tie.spec (λ c κs. search needs)
-    cast-n
-    cast-m
+    (λ c. search (needs, limits-of (c .before .before .before .before .before .before .before .args .self) (sym (c .before .within-limits .ensures) ∙ c .if1 .taken)))
+    (λ c. search (needs, limits-of (c .before .before .before .before .before .before .before .args .self) (sym (c .before .within-limits .ensures) ∙ c .if1 .taken)))
     (λ c κs. search needs)
     (λ c κs. search needs)
     (λ c κs. search needs)
