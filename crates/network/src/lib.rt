@@ -126,12 +126,6 @@ fn within_limits(nodes: usize, links: usize, rounds: u16) -> bool
     rounds <= 10000
 }
 
-fn wide(x: u8) -> u16
-    ensures { λ r. ⌜ r ≡ x ⌝ }
-{
-    x as u16
-}
-
 // What is wrong of a node's entries: 0 where they fit. The loops over the lists gather it into one number and never stop, so that they go
 // many entries at a time.
 fn node_fault(nodes: u8, p: u8, parent: u8, start: u16) -> u16
@@ -143,7 +137,7 @@ fn node_fault(nodes: u8, p: u8, parent: u8, start: u16) -> u16
         }
         return 1;
     }
-    wide(parent) | start
+    (parent as u16) | start
 }
 
 fn nodes_fit(nodes: u8, parents: &[u8; 64], starts: &[u16; 64]) -> bool
