@@ -7,6 +7,7 @@ ghost use Rattle.laws.specs.Below.{allBelow, listBelow};
 ghost use lib.Dec.{eqb};
 ghost use lib.ListN.{getD, replicate};
 ghost use Rattle.network.specs.Sets.{added, linked, adopted, linkSet, childSet, neighboursOf, childrenOf, preferredOf, withSets};
+ghost use Rattle.network.specs.Zeros.{zeroNetwork};
 ghost use Rattle.network.specs.Valid.{withinLimits, nodeFits, rises, linkFits, standsAfter, linkStands, agrees, validNetwork};
 use nodeset::NodeSet;
 
@@ -25,6 +26,25 @@ pub struct Network {
     pub neighbours: [u64; 64],
     pub children: [u64; 64],
     pub preferred: [u64; 64],
+}
+
+// "a network of zeros", for what is refused
+pub fn zeros() -> Network
+    ensures { λ r. ⌜ r ≡ zeroNetwork ⌝ }
+{
+    Network {
+        nodes: 0,
+        links: 0,
+        rounds: 0,
+        parents: [0; 64],
+        starts: [0; 64],
+        lowers: [0; 128],
+        uppers: [0; 128],
+        flags: [0; 128],
+        neighbours: [0; 64],
+        children: [0; 64],
+        preferred: [0; 64],
+    }
 }
 
 // q as one more member of p's set
