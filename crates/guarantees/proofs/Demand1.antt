@@ -16,7 +16,7 @@ use Rattle.records.specs.Numbers.{accepted}
 use Rattle.records.specs.Keeps.{Bytes, BreaksAt, bytes-end, unknown, short, whole, BreaksFirst, order, number, range}
 use Rattle.records.specs.Plan.{Plan}
 use Rattle.records.specs.declared.Record.{Record}
-use Rattle.records.specs.Reader.{zeroNetwork}
+use Rattle.network.specs.Zeros.{zeroNetwork}
 use Rattle.plan.specs.Accepted.{Refused, by-record, by-whole, Breaks6to10, by-6, by-7, by-8, by-9, by-10}
 use Rattle.plan.specs.Checks.{planOf}
 use Rattle.plan.proofs.Answers as plan

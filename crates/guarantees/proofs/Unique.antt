@@ -29,10 +29,10 @@ use Rattle.network.proofs.at_most.Kinds as network-at-most-kinds
 use Rattle.network.proofs.at_most.Reads as network-at-most-reads
 use Rattle.network.proofs.pair_rises.Kinds as network-pair-rises-kinds
 use Rattle.network.proofs.pair_rises.Reads as network-pair-rises-reads
+use Rattle.network.proofs.zeros.Kinds as network-zeros-kinds
+use Rattle.network.proofs.zeros.Reads as network-zeros-reads
 use Rattle.records.proofs.Cursor.read.Kinds as records-read-kinds
 use Rattle.records.proofs.Cursor.read.Reads as records-read-reads
-use Rattle.records.proofs.zeros.Kinds as records-zeros-kinds
-use Rattle.records.proofs.zeros.Reads as records-zeros-reads
 use Rattle.records.proofs.answer.Kinds as records-answer-kinds
 use Rattle.records.proofs.answer.Reads as records-answer-reads
 use Rattle.records.proofs.read_lists.Kinds as records-read-lists-kinds
@@ -214,13 +214,13 @@ network-at-most-one κs a x y s t p q = same p q
 pub network-pair-rises-one : OneResult _ network-pair-rises-kinds.ps network-pair-rises-kinds.r network-pair-rises-reads.Post
 network-pair-rises-one κs a x y s t p q = same p q
 
+pub network-zeros-one : OneResult _ network-zeros-kinds.ps network-zeros-kinds.r network-zeros-reads.Post
+network-zeros-one κs a x y s t p q = same p q
+
 -- ---- records
 
 pub records-read-one : OneResult _ records-read-kinds.ps records-read-kinds.r records-read-reads.Post
 records-read-one κs a x y s t p q = same p q
-
-pub records-zeros-one : OneResult _ records-zeros-kinds.ps records-zeros-kinds.r records-zeros-reads.Post
-records-zeros-one κs a x y s t p q = same p q
 
 pub records-answer-one : OneResult _ records-answer-kinds.ps records-answer-kinds.r records-answer-reads.Post
 records-answer-one κs a x y s t p q = same p q

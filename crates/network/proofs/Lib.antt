@@ -1,3 +1,4 @@
+pub mod Links
 pub mod Sets
 pub mod Tables
 pub mod Valid

@@ -5,14 +5,16 @@ use native.Mathlib.Nat.{le-refl}
 use native.Mathlib.Omega.{arith}
 use mathlib.Core.Path.{_≡_, refl, sym, _∙_, ap, subst}
 use mathlib.Core.List.{List}
+use mathlib.Core.Logic.{_⊎_, inl, inr}
 use lib.ListN.{length, getD, set, replicate, length-set, length-replicate, getD-replicate}
-use lib.Seq.{getD-set-same, getD-set-other}
+use lib.Seq.{getD-set-same, getD-set-other, set-getD}
 use lib.Dec.{eqb}
 use Rattle.laws.specs.Choice.{ifLt, ifEq}
 use Rattle.laws.specs.Below.{listBelow}
 use Rattle.laws.proofs.Choice.{ifLt-yes, ifLt-no, ifEq-yes, ifEq-no, lt-elim, eq-elim}
 use Rattle.laws.proofs.Below.{list-is, list-at, length-list, fold-start, fold-more, all-same}
 use Rattle.nodeset.specs.Marks.{inserted}
+use Rattle.nodeset.proofs.Marks.{above-63-adds-nothing}
 use Rattle.network.specs.Valid.{agrees}
 use Rattle.network.specs.declared.Network.{Network}
 use Rattle.network.specs.Sets.{withSets, towards, linkGives, linkSet, childSet, added, linked, adopted}
@@ -31,6 +33,16 @@ added-at sets x q p n h =
     (λ e. ap (λ l. getD l p 0) (ifLt-yes x 64 (set sets x (inserted (getD sets x 0) q)) sets (omega arith)) ∙ subst (λ y. getD (set sets y (inserted (getD sets y 0) q)) p 0 ≡ inserted (getD sets p 0) q) (sym e) (getD-set-same sets p (inserted (getD sets p 0) q) 0 (omega arith)))
     (λ d. lt-elim (λ l. getD l p 0 ≡ getD sets p 0) x 64 (set sets x (inserted (getD sets x 0) q)) sets (λ _. getD-set-other sets x p (inserted (getD sets x 0) q) 0 (λ e. d (sym e))) (λ _. refl))
 
+-- a number above 63 has no set, and as a member it changes none
+added-past : (sets : List ℕ) (x q : ℕ) → 64 ≤ x → added sets x q ≡ sets
+unfolding added
+added-past sets x q h = ifLt-no x 64 (set sets x (inserted (getD sets x 0) q)) sets h
+
+added-above : (sets : List ℕ) (x q : ℕ) → 64 ≤ q → added sets x q ≡ sets
+unfolding added
+added-above sets x q h =
+    lt-elim (λ l. l ≡ sets) x 64 (set sets x (inserted (getD sets x 0) q)) sets (λ _. ap (set sets x) (above-63-adds-nothing (getD sets x 0) q h) ∙ set-getD sets x 0) (λ _. refl)
+
 -- ---- one more link, one more child
 
 pub length-linked : (sets : List ℕ) (a b flag least : ℕ) → length (linked sets a b flag least) ≡ length sets
@@ -44,6 +56,16 @@ linked-at sets a b flag least p n h =
     lt-elim (λ r. getD (linked sets a b flag least) p 0 ≡ r) flag least (getD sets p 0) (linkGives a b p (getD sets p 0))
     (λ l. ap (λ t. getD t p 0) (ifLt-yes flag least sets (added (added sets a b) b a) l))
     (λ l. ap (λ t. getD t p 0) (ifLt-no flag least sets (added (added sets a b) b a) l) ∙ added-at (added sets a b) b a p (length-added sets a b ∙ n) h ∙ ap (towards b a p) (added-at sets a b p n h))
+
+-- a link with an end above 63 changes no table: that end has no set, and no set takes it in
+pub linked-past : (sets : List ℕ) (a b flag least : ℕ) → (64 ≤ a) ⊎ (64 ≤ b) → sets ≡ linked sets a b flag least
+unfolding linked
+linked-past sets a b flag least past =
+    lt-elim (λ l. sets ≡ l) flag least sets (added (added sets a b) b a) (λ _. refl) (λ _. none past)
+  where
+    none : (64 ≤ a) ⊎ (64 ≤ b) → sets ≡ added (added sets a b) b a
+    none (inl h) = sym (ap (λ l. added l b a) (added-past sets a b h) ∙ added-above sets b a h)
+    none (inr h) = sym (added-past (added sets a b) b a h ∙ added-above sets a b h)
 
 pub length-adopted : (sets : List ℕ) (p q : ℕ) → length (adopted sets p q) ≡ length sets
 unfolding adopted

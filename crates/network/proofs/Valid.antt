@@ -45,25 +45,24 @@ rises-trans a b c d e f p q =
 
 -- ---- from the test to the clauses
 
-module _ (net : Network) (v : validNetwork net ≡ true) where
-  limits-pass : withinLimits (net .nodes) (net .links) (net .rounds) ≡ true
-  unfolding validNetwork
-  limits-pass = both-left _ _ v
+pub limits-of : (net : Network) → withinLimits (net .nodes) (net .links) (net .rounds) ≡ true → Limits net
+unfolding withinLimits
+limits-of net a =
+    let b = both-right (leb 1 (net .nodes)) _ a in
+    let c = both-right (leb (net .nodes) 64) _ b in
+    let d = both-right (leb (net .links) 128) _ c in
+    record {
+      some-node = leb-true 1 (net .nodes) (both-left _ _ a);
+      at-most-64-nodes = leb-true (net .nodes) 64 (both-left _ _ b);
+      at-most-128-links = leb-true (net .links) 128 (both-left _ _ c);
+      some-round = leb-true 1 (net .rounds) (both-left _ _ d);
+      at-most-10000-rounds = leb-true (net .rounds) 10000 (both-right _ _ d);
+    }
 
+module _ (net : Network) (v : validNetwork net ≡ true) where
   pub valid-limits : Limits net
-  unfolding withinLimits
-  valid-limits =
-      let a = limits-pass in
-      let b = both-right (leb 1 (net .nodes)) _ a in
-      let c = both-right (leb (net .nodes) 64) _ b in
-      let d = both-right (leb (net .links) 128) _ c in
-      record {
-        some-node = leb-true 1 (net .nodes) (both-left _ _ a);
-        at-most-64-nodes = leb-true (net .nodes) 64 (both-left _ _ b);
-        at-most-128-links = leb-true (net .links) 128 (both-left _ _ c);
-        some-round = leb-true 1 (net .rounds) (both-left _ _ d);
-        at-most-10000-rounds = leb-true (net .rounds) 10000 (both-right _ _ d);
-      }
+  unfolding validNetwork
+  valid-limits = limits-of net (both-left _ _ v)
 
   node-passes : (p : ℕ) → p < 64 → nodeFits (net .nodes) p (getD (net .parents) p 0) (getD (net .starts) p 0) ≡ true
   unfolding validNetwork

@@ -5,9 +5,10 @@ ghost use Prim.Native.Nat.{_≤_, _<_, min};
 ghost use Rattle.laws.specs.Choice.{both};
 ghost use Rattle.laws.specs.Below.{allBelow, listBelow};
 ghost use lib.Dec.{eqb};
-ghost use lib.ListN.{getD};
+ghost use lib.ListN.{getD, replicate};
 ghost use Rattle.network.specs.Sets.{added, linked, adopted, linkSet, childSet, neighboursOf, childrenOf, preferredOf, withSets};
-ghost use Rattle.network.specs.Valid.{withinLimits, nodeFits, rises, linkFits, linkRises, linkStands, agrees, validNetwork};
+ghost use Rattle.network.specs.Zeros.{zeroNetwork};
+ghost use Rattle.network.specs.Valid.{withinLimits, nodeFits, rises, linkFits, standsAfter, linkStands, agrees, validNetwork};
 use nodeset::NodeSet;
 
 pub struct Network {
@@ -27,6 +28,25 @@ pub struct Network {
     pub preferred: [u64; 64],
 }
 
+// "a network of zeros", for what is refused
+pub fn zeros() -> Network
+    ensures { λ r. ⌜ r ≡ zeroNetwork ⌝ }
+{
+    Network {
+        nodes: 0,
+        links: 0,
+        rounds: 0,
+        parents: [0; 64],
+        starts: [0; 64],
+        lowers: [0; 128],
+        uppers: [0; 128],
+        flags: [0; 128],
+        neighbours: [0; 64],
+        children: [0; 64],
+        preferred: [0; 64],
+    }
+}
+
 // q as one more member of p's set
 fn add(sets: &mut [u64; 64], p: u8, q: u8)
     ensures { λ r. ⌜ now (sets .exit) ≡ added (now (sets .entry)) p q ⌝ }
@@ -39,15 +59,24 @@ fn add(sets: &mut [u64; 64], p: u8, q: u8)
     sets[at] = with.marks;
 }
 
-// a link's ends, each in the other's set, where its flag is at least the one asked for
-fn link(sets: &mut [u64; 64], a: u8, b: u8, flag: u8, least: u8)
-    ensures { λ r. ⌜ now (sets .exit) ≡ linked (now (sets .entry)) a b flag least ⌝ }
+// one link in both tables: each end among the other's neighbours and, where the flag says so, among its preferred neighbours. Above 63 no
+// node has a set, and none takes it in: the ends are looked at once, for all four.
+fn link(neighbours: &mut [u64; 64], preferred: &mut [u64; 64], a: u8, b: u8, flag: u8)
+    ensures { λ r. ⌜ (now (neighbours .exit) ≡ linked (now (neighbours .entry)) a b flag 0) × (now (preferred .exit) ≡ linked (now (preferred .entry)) a b flag 1) ⌝ }
 {
-    if flag < least {
+    if 64 <= a {
         return;
     }
-    add(sets, a, b);
-    add(sets, b, a);
+    if 64 <= b {
+        return;
+    }
+    add(neighbours, a, b);
+    add(neighbours, b, a);
+    if flag < 1 {
+        return;
+    }
+    add(preferred, a, b);
+    add(preferred, b, a);
 }
 
 // q as a child of p, unless q is p: a root is not its own child
@@ -60,24 +89,23 @@ fn adopt(sets: &mut [u64; 64], p: u8, q: u8)
     add(sets, p, q);
 }
 
-// the sets over the links whose flag is at least the one asked for
+// both tables over the list of links, in one pass
 fn link_sets(
     lowers: &[u8; 128],
     uppers: &[u8; 128],
     flags: &[u8; 128],
-    least: u8,
     links: usize,
-) -> [u64; 64]
-    requires { ⌜ links ≤ 128 ⌝ }
-    ensures { λ r. ⌜ r ≡ listBelow (linkSet (now (lowers .entry)) (now (uppers .entry)) (now (flags .entry)) least links) 64 ⌝ }
+    neighbours: &mut [u64; 64],
+    preferred: &mut [u64; 64],
+)
+    requires { ⌜ (links ≤ 128) × (now neighbours ≡ replicate 64 0) × (now preferred ≡ replicate 64 0) ⌝ }
+    ensures { λ r. ⌜ (now (neighbours .exit) ≡ listBelow (linkSet (now (lowers .entry)) (now (uppers .entry)) (now (flags .entry)) 0 links) 64) × (now (preferred .exit) ≡ listBelow (linkSet (now (lowers .entry)) (now (uppers .entry)) (now (flags .entry)) 1 links) 64) ⌝ }
 {
-    let mut sets = [0u64; 64];
     let mut l = 0;
     while l < links {
-        link(&mut sets, lowers[l], uppers[l], flags[l], least);
+        link(neighbours, preferred, lowers[l], uppers[l], flags[l]);
         l += 1;
     }
-    sets
 }
 
 fn child_sets(parents: &[u8; 64], nodes: usize) -> [u64; 64]
@@ -118,30 +146,31 @@ fn within_limits(nodes: usize, links: usize, rounds: u16) -> bool
     rounds <= 10000
 }
 
-fn node_fits(nodes: usize, p: usize, parent: u8, start: u16) -> bool
-    ensures { λ r. ⌜ r ≡ nodeFits nodes p parent start ⌝ }
+// What is wrong of a node's entries: 0 where they fit. The loops over the lists gather it into one number and never stop, so that they go
+// many entries at a time.
+fn node_fault(nodes: u8, p: u8, parent: u8, start: u16) -> u16
+    ensures { λ r. ⌜ eqb r 0 ≡ nodeFits nodes p parent start ⌝ }
 {
     if p < nodes {
-        return (parent as usize) < nodes;
+        if parent < nodes {
+            return 0;
+        }
+        return 1;
     }
-    if parent == 0 {
-        return start == 0;
-    }
-    false
+    (parent as u16) | start
 }
 
-fn nodes_fit(nodes: usize, parents: &[u8; 64], starts: &[u16; 64]) -> bool
+fn nodes_fit(nodes: u8, parents: &[u8; 64], starts: &[u16; 64]) -> bool
     ensures { λ r. ⌜ r ≡ allBelow (λ p. nodeFits nodes p (getD (now (parents .entry)) p 0) (getD (now (starts .entry)) p 0)) 64 ⌝ }
 {
-    let mut p = 0;
+    let mut faults = 0u16;
+    let mut p = 0u8;
     while p < 64 {
-        if node_fits(nodes, p, parents[p], starts[p]) {
-            p += 1;
-        } else {
-            return false;
-        }
+        let at = p as usize;
+        faults = faults | node_fault(nodes, p, parents[at], starts[at]);
+        p += 1;
     }
-    true
+    faults == 0
 }
 
 // "links in strictly rising order of (a, b)"
@@ -157,11 +186,11 @@ pub fn pair_rises(a: u8, b: u8, c: u8, d: u8) -> bool
     false
 }
 
-fn link_fits(nodes: usize, a: u8, b: u8, flag: u8) -> bool
+fn link_fits(nodes: u8, a: u8, b: u8, flag: u8) -> bool
     ensures { λ r. ⌜ r ≡ linkFits nodes a b flag ⌝ }
 {
     if a < b {
-        if (b as usize) < nodes {
+        if b < nodes {
             return flag < 2;
         }
         return false;
@@ -169,81 +198,58 @@ fn link_fits(nodes: usize, a: u8, b: u8, flag: u8) -> bool
     false
 }
 
-fn link_is_zero(a: u8, b: u8, flag: u8) -> bool
-    ensures { λ r. ⌜ r ≡ both (eqb a 0) (both (eqb b 0) (eqb flag 0)) ⌝ }
-{
-    if a == 0 {
-        if b == 0 {
-            return flag == 0;
-        }
-        return false;
-    }
-    false
-}
-
-fn link_rises(lowers: &[u8; 128], uppers: &[u8; 128], l: usize) -> bool
-    requires { ⌜ l < 128 ⌝ }
-    ensures { λ r. ⌜ r ≡ linkRises (now (lowers .entry)) (now (uppers .entry)) l ⌝ }
-{
-    if l == 0 {
-        return true;
-    }
-    let k = l - 1;
-    pair_rises(lowers[k], uppers[k], lowers[l], uppers[l])
-}
-
-fn link_stands(
-    nodes: usize,
-    links: usize,
-    lowers: &[u8; 128],
-    uppers: &[u8; 128],
-    flags: &[u8; 128],
-    l: usize,
-) -> bool
-    requires { ⌜ l < 128 ⌝ }
-    ensures { λ r. ⌜ r ≡ linkStands nodes links (now (lowers .entry)) (now (uppers .entry)) (now (flags .entry)) l ⌝ }
+// What is wrong of the link (c, d) at place l, after the link (a, b).
+fn link_fault(nodes: u8, links: u8, l: u8, a: u8, b: u8, c: u8, d: u8, flag: u8) -> u8
+    ensures { λ r. ⌜ eqb r 0 ≡ standsAfter nodes links l a b c d flag ⌝ }
 {
     if l < links {
-        if link_fits(nodes, lowers[l], uppers[l], flags[l]) {
-            return link_rises(lowers, uppers, l);
+        if link_fits(nodes, c, d, flag) {
+            if pair_rises(a, b, c, d) {
+                return 0;
+            }
+            return 1;
         }
-        return false;
+        return 1;
     }
-    link_is_zero(lowers[l], uppers[l], flags[l])
+    c | (d | flag)
 }
 
+// Every link that fits rises above (0, 0), so the first needs no rule of its own.
 fn links_stand(
-    nodes: usize,
-    links: usize,
+    nodes: u8,
+    links: u8,
     lowers: &[u8; 128],
     uppers: &[u8; 128],
     flags: &[u8; 128],
 ) -> bool
     ensures { λ r. ⌜ r ≡ allBelow (linkStands nodes links (now (lowers .entry)) (now (uppers .entry)) (now (flags .entry))) 128 ⌝ }
 {
-    let mut l = 0;
+    let mut faults = 0u8;
+    let mut a = 0u8;
+    let mut b = 0u8;
+    let mut l = 0u8;
     while l < 128 {
-        if link_stands(nodes, links, lowers, uppers, flags, l) {
-            l += 1;
-        } else {
-            return false;
-        }
+        let at = l as usize;
+        let c = lowers[at];
+        let d = uppers[at];
+        faults = faults | link_fault(nodes, links, l, a, b, c, d, flags[at]);
+        a = c;
+        b = d;
+        l += 1;
     }
-    true
+    faults == 0
 }
 
 fn agree(kept: &[u64; 64], given: &[u64; 64]) -> bool
     ensures { λ r. ⌜ r ≡ agrees (now (kept .entry)) (λ p. getD (now (given .entry)) p 0) ⌝ }
 {
+    let mut faults = 0u64;
     let mut p = 0;
     while p < 64 {
-        if kept[p] == given[p] {
-            p += 1;
-        } else {
-            return false;
-        }
+        faults = faults | (kept[p] ^ given[p]);
+        p += 1;
     }
-    true
+    faults == 0
 }
 
 impl Network {
@@ -258,8 +264,16 @@ impl Network {
         let flags = self.flags;
         let links = at_most(self.links, 128);
         let nodes = at_most(self.nodes, 64);
-        let neighbours = link_sets(&lowers, &uppers, &flags, 0, links);
-        let preferred = link_sets(&lowers, &uppers, &flags, 1, links);
+        let mut neighbours = [0u64; 64];
+        let mut preferred = [0u64; 64];
+        link_sets(
+            &lowers,
+            &uppers,
+            &flags,
+            links,
+            &mut neighbours,
+            &mut preferred,
+        );
         let children = child_sets(&parents, nodes);
         Network {
             nodes: self.nodes,
@@ -308,8 +322,10 @@ impl Network {
         let uppers = self.uppers;
         let flags = self.flags;
         if within_limits(nodes, links, self.rounds) {
-            if nodes_fit(nodes, &parents, &starts) {
-                if links_stand(nodes, links, &lowers, &uppers, &flags) {
+            let n = nodes as u8;
+            let m = links as u8;
+            if nodes_fit(n, &parents, &starts) {
+                if links_stand(n, m, &lowers, &uppers, &flags) {
                     return self.sets_agree();
                 }
                 return false;

@@ -5,6 +5,7 @@ use Prim.Native.Nat.{ℕ, zero, suc, _+_, _-_, _*_, _/_, _%_, _^_, _<_, _≤_}
 use native.Mathlib.Nat.{div-one, pow-suc, div-div-eq-div-mul, mul-comm, pow-zero, le-refl, not-suc-le-zero}
 use native.Mathlib.Omega.{arith}
 use mathlib.Core.Path.{_≡_, refl, sym, _∙_, ap, ap₂, subst}
+use lib.Bits.{bitOr, or-step, or-zero-r}
 use lib.Count.{ones, ones-step, trailingZeros, under}
 use Rattle.laws.specs.Below.{sumBelow}
 use Rattle.laws.proofs.Below.{sum-same}
@@ -59,6 +60,20 @@ raised-fits zero k m h l e = absurd (not-suc-le-zero h)
 raised-fits (suc n) zero m h l e = omega (arith, digit-zero m)
 raised-fits (suc n) (suc k) m h l e =
     omega (arith, raised-fits n k (m / 2) (omega arith) (omega arith) (sym (digit-suc m k) ∙ e))
+
+-- the union with the weight of digit k is the sum where the digit is 0 ..
+pub or-raises : (k m : ℕ) → digit m k ≡ 0 → bitOr m (2 ^ k) ≡ m + 2 ^ k
+or-raises zero m e = omega (arith, or-step m 1, or-zero-r (m / 2), digit-zero m)
+or-raises (suc k) m e =
+    let half : 2 ^ suc k / 2 ≡ 2 ^ k = omega arith in
+    omega (arith, or-step m (2 ^ suc k), ap (bitOr (m / 2)) half, or-raises k (m / 2) (sym (digit-suc m k) ∙ e))
+
+-- .. and the number itself where it is 1
+pub or-keeps : (k m : ℕ) → digit m k ≡ 1 → bitOr m (2 ^ k) ≡ m
+or-keeps zero m e = omega (arith, or-step m 1, or-zero-r (m / 2), digit-zero m)
+or-keeps (suc k) m e =
+    let half : 2 ^ suc k / 2 ≡ 2 ^ k = omega arith in
+    omega (arith, or-step m (2 ^ suc k), ap (bitOr (m / 2)) half, or-keeps k (m / 2) (sym (digit-suc m k) ∙ e))
 
 -- where digit k is 1, taking its weight off clears it
 pub cleared-same : (k m : ℕ) → digit m k ≡ 1 → digit (m - 2 ^ k) k ≡ 0

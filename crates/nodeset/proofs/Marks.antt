@@ -9,6 +9,7 @@ use mathlib.Core.Path.{_≡_, refl, sym, _∙_, ap, subst}
 use mathlib.Core.Bool.{Bool, true, false}
 use lib.Dec.{eqb, lit<}
 use lib.Pow.{pow-lt, pow-pos}
+use lib.Bits.{bitOr}
 use lib.Count.{ones, trailingZeros, trailing-le}
 use borrow.Author.Tests.{eq-eqb, ne-eqb, eqb-true, eqb-false}
 use Rattle.laws.specs.Choice.{ifB, ifLt}
@@ -16,7 +17,7 @@ use Rattle.laws.specs.Below.{sumBelow, countBelow, firstOf}
 use Rattle.laws.proofs.Choice.{ifB-yes, ifB-no, ifLt-yes, ifLt-no, b-elim, lt-elim, same-test, not-true-false}
 use Rattle.laws.proofs.Below.{sum-same, first-found, first-none, first-passes, first-below, first-le}
 use Rattle.nodeset.specs.Marks.{digit, member, inserted, removed, sizeOf, lowestOf}
-use Rattle.nodeset.proofs.Digits.{digit-of-zero, digit-below-two, digit-weighs, raised-same, raised-other, raised-fits, cleared-same, cleared-other, same-digits, ones-are-digits, trailing-clear, trailing-set}
+use Rattle.nodeset.proofs.Digits.{digit-of-zero, digit-below-two, digit-weighs, raised-same, raised-other, raised-fits, or-raises, or-keeps, cleared-same, cleared-other, same-digits, ones-are-digits, trailing-clear, trailing-set}
 
 -- ---- membership and the marks
 
@@ -79,6 +80,11 @@ inserted-is-in m k h =
 pub inserted-keeps-others : (m k j : ℕ) → (j ≡ k → ⊥) → member (inserted m k) j ≡ member m j
 inserted-keeps-others m k j d =
     inserted-elim (λ x. member x j ≡ member m j) m k (λ _. refl) (λ _. refl) (λ _ z. same-digit-member (m + 2 ^ k) m j (raised-other k j m z d))
+
+-- the mark joined to the others: where it was among them already nothing changes
+pub or-inserts : (m k : ℕ) → k < 64 → bitOr m (2 ^ k) ≡ inserted m k
+or-inserts m k h =
+    inserted-elim (λ x. bitOr m (2 ^ k) ≡ x) m k (λ l. absurd (omega arith)) (λ e. or-keeps k m (member-digit m k e)) (λ _ z. or-raises k m z)
 
 pub inserted-fits : (m k : ℕ) → m < 2 ^ 64 → inserted m k < 2 ^ 64
 inserted-fits m k f = inserted-elim (λ x. x < 2 ^ 64) m k (λ _. f) (λ _. f) (λ h z. raised-fits 64 k m h f z)

@@ -28,11 +28,8 @@ impl NodeSet {
         if 64 <= node {
             return self;
         }
-        if self.contains(node) {
-            return self;
-        }
         NodeSet {
-            marks: marks + (1 << node),
+            marks: marks | (1 << node),
         }
     }
 

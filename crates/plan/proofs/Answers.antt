@@ -11,7 +11,8 @@ use Rattle.laws.proofs.Choice.{ifEq-yes, ifEq-no}
 use Rattle.network.specs.declared.Network.{Network}
 use Rattle.network.specs.Sets.{withSets}
 use Rattle.records.specs.Numbers.{accepted}
-use Rattle.records.specs.Reader.{zeroNetwork, refusedWith, acceptedWith, listsOf}
+use Rattle.network.specs.Zeros.{zeroNetwork}
+use Rattle.records.specs.Reader.{refusedWith, acceptedWith, listsOf}
 use Rattle.records.specs.Plan.{networkOf}
 use Rattle.records.specs.Keeps.{Bytes, Accepted1to5}
 use Rattle.records.proofs.Answers.{answer-accepted, answer-refused, every-answer}

@@ -10,7 +10,8 @@ use Rattle.network.specs.Sets.{withSets}
 use Rattle.network.specs.Valid.{rises}
 use Rattle.records.specs.Record.{bodyLength, recordAt, readAt}
 use Rattle.records.specs.Rules.{roundsRule, nodeRule, followsOf, linkRule, endRule}
-use Rattle.records.specs.Reader.{zeroNetwork, roundsAdded, nodeAdded, linkAdded, turn, listsFrom, listsOf, refusedWith}
+use Rattle.network.specs.Zeros.{zeroNetwork}
+use Rattle.records.specs.Reader.{roundsAdded, nodeAdded, linkAdded, turn, listsFrom, listsOf, refusedWith}
 use Rattle.links.specs.Links.{pairIs, joins, linkBetween, hasLink}
 use Rattle.tree.specs.Climb.{rootFrom}
 use Rattle.tree.specs.Checks.{untied, firstUntied, firstLost}

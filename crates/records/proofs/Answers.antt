@@ -10,7 +10,8 @@ use lib.ListN.{length, take, length-append}
 use lib.Seq.{take-append-seam}
 use Rattle.network.specs.declared.Network.{Network}
 use Rattle.records.specs.Numbers.{accepted}
-use Rattle.records.specs.Reader.{zeroNetwork, refusedWith, acceptedWith, listsOf}
+use Rattle.network.specs.Zeros.{zeroNetwork}
+use Rattle.records.specs.Reader.{refusedWith, acceptedWith, listsOf}
 use Rattle.records.specs.Plan.{Plan, bytesOf, networkOf, Keeps1to5}
 use Rattle.records.specs.Keeps.{Bytes, Accepted1to5, Refused1to5}
 use Rattle.records.proofs.Networks.{one-plan}

@@ -9,7 +9,8 @@ use lib.ListN.{length, take, set, replicate, length-map}
 use lib.Seq.{take-append-seam}
 use Rattle.records.specs.declared.Record.{Record}
 use Rattle.records.specs.declared.Record.the-variants.{End, Rounds, Node, Link}
-use Rattle.records.specs.Reader.{zeroNetwork, roundsAdded, nodeAdded, linkAdded, HasRoom, addOf}
+use Rattle.network.specs.Zeros.{zeroNetwork}
+use Rattle.records.specs.Reader.{roundsAdded, nodeAdded, linkAdded, HasRoom, addOf}
 use Rattle.records.specs.Plan.{Plan, PlanNode, PlanLink, padded, networkOf}
 use Rattle.records.specs.Keeps.{noPlan, with}
 use Rattle.records.proofs.Lists.{map-more, length-more, padded-more}

@@ -17,7 +17,8 @@ use Rattle.records.specs.declared.Cursor.{Cursor}
 use Rattle.records.specs.Numbers.{accepted, kindUnknown, cutShort, outOfOrder}
 use Rattle.records.specs.Record.{bodyLength, readAt}
 use Rattle.records.specs.Rules.{ruleOf}
-use Rattle.records.specs.Reader.{zeroNetwork, nodeAdded, linkAdded, roundsAdded, HasRoom, addOf, closesOf, refusedWith, acceptedWith, turn, listsFrom, listsOf}
+use Rattle.network.specs.Zeros.{zeroNetwork}
+use Rattle.records.specs.Reader.{nodeAdded, linkAdded, roundsAdded, HasRoom, addOf, closesOf, refusedWith, acceptedWith, turn, listsFrom, listsOf}
 use Rattle.records.proofs.Codec.{read-cases}
 
 -- what holds between two records: the offset and the network so far

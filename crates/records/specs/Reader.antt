@@ -4,9 +4,10 @@
 use Prim.Native.Nat.{ℕ, zero, suc, _+_, _<_}
 use mathlib.Core.Bool.{Bool, true, false}
 use mathlib.Core.List.{List}
-use lib.ListN.{length, set, replicate}
+use lib.ListN.{length, set}
 use Rattle.laws.specs.Choice.{ifB, ifEq}
 use Rattle.network.specs.declared.Network.{Network}
+use Rattle.network.specs.Zeros.{zeroNetwork}
 use Rattle.records.specs.declared.Record.{Record}
 use Rattle.records.specs.declared.Record.the-variants.{End, Rounds, Node, Link}
 use Rattle.records.specs.declared.Read.{Read}
@@ -15,23 +16,6 @@ use Rattle.records.specs.declared.Planned.{Planned}
 use Rattle.records.specs.Numbers.{accepted, kindUnknown, cutShort, outOfOrder}
 use Rattle.records.specs.Record.{readAt}
 use Rattle.records.specs.Rules.{ruleOf}
-
--- "a network of zeros"
-unfoldable pub zeroNetwork : Network
-zeroNetwork =
-    record {
-      nodes = 0;
-      links = 0;
-      rounds = 0;
-      parents = replicate 64 0;
-      starts = replicate 64 0;
-      lowers = replicate 128 0;
-      uppers = replicate 128 0;
-      flags = replicate 128 0;
-      neighbours = replicate 64 0;
-      children = replicate 64 0;
-      preferred = replicate 64 0;
-    }
 
 -- the network with one more record in its lists
 unfoldable pub roundsAdded : Network → ℕ → Network

@@ -4,9 +4,10 @@ ghost use Prim.Native.Nat.{_+_, _<_, _≤_};
 ghost use lib.ListN.{length};
 ghost use Rattle.records.specs.Record.{bodyLength, pairOf, recordAt, readAt};
 ghost use Rattle.records.specs.Rules.{roundsRule, nodeRule, linkRule, endRule, followsOf, ruleOf};
-ghost use Rattle.records.specs.Reader.{zeroNetwork, roundsAdded, nodeAdded, linkAdded, HasRoom, addOf, closesOf, answered, listsOf};
+ghost use Rattle.records.specs.Reader.{roundsAdded, nodeAdded, linkAdded, HasRoom, addOf, closesOf, answered, listsOf};
 use network::Network;
 use network::pair_rises;
+use network::zeros;
 
 // The plan's numbers that one record decides.
 pub const ACCEPTED: u8 = 0;
@@ -215,24 +216,6 @@ fn rule(net: Network, rec: Record) -> u8
             b,
             flag,
         ),
-    }
-}
-
-pub fn zeros() -> Network
-    ensures { λ r. ⌜ r ≡ zeroNetwork ⌝ }
-{
-    Network {
-        nodes: 0,
-        links: 0,
-        rounds: 0,
-        parents: [0; 64],
-        starts: [0; 64],
-        lowers: [0; 128],
-        uppers: [0; 128],
-        flags: [0; 128],
-        neighbours: [0; 64],
-        children: [0; 64],
-        preferred: [0; 64],
     }
 }
 

@@ -1,8 +1,10 @@
--- `Network::valid`: the tests are the definition's, in its order.
+-- `Network::valid`: the tests are the definition's, in its order; within the limits both counts fit into a byte.
 -- Assumes nothing.
 use borrow.Author.Needs.{needs}
+use mathlib.Core.Path.{sym, _∙_}
 use Rattle.laws.proofs.Choice.{picks}
 use Rattle.network.specs.Valid.{validNetwork}
+use Rattle.network.proofs.Valid.{limits-of}
 use Rattle.network.proofs.Network.valid.Statement.{statement}
 use Rattle.network.proofs.Network.valid.Tie as tie
 
@@ -30,6 +32,8 @@ pub valid-spec : {M : Type 1} → statement M
 valid-spec =
     tie.close
     (tie.spec (λ c κs. search needs)
+    (λ c. search (needs, limits-of (c .before .before .before .before .before .before .before .args .self) (sym (c .before .within-limits .ensures) ∙ c .if1 .taken)))
+    (λ c. search (needs, limits-of (c .before .before .before .before .before .before .before .args .self) (sym (c .before .within-limits .ensures) ∙ c .if1 .taken)))
     (λ c κs. search needs)
     (λ c κs. search needs)
     (λ c κs. search needs)

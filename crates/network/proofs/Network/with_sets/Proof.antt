@@ -8,13 +8,13 @@ use Rattle.network.proofs.Network.with_sets.Tie as tie
 returns : tie.Need-returns
 unfolding withSets
 returns c =
-    rw (c .child-sets .ensures, c .before .before .link-sets2 .ensures, c .before .before .before .before .before .before .link-sets .ensures, c .before .before .before .before .before .before .before .before .before .before .at-most2 .ensures, c .before .before .before .before .before .before .before .before .before .before .before .at-most .ensures)
+    let sets = c .before .before .link-sets .ensures in
+    rw (c .child-sets .ensures, sets .0, sets .1, c .before .before .before .before .before .before .before .before .at-most2 .ensures, c .before .before .before .before .before .before .before .before .before .at-most .ensures)
 
 pub with-sets-spec : {M : Type 1} → statement M
 with-sets-spec =
     tie.close
     (tie.spec (λ c κs. search needs)
-    (λ c κs. search needs)
     (λ c κs. search needs)
     (λ c κs. search needs)
     (λ c κs. search needs)
