@@ -8,7 +8,7 @@ use contract.Lifetimes.{Lfts}
 use denote.Ref.{now}
 use denote.Triple.Clauses.{AtExit}
 use borrow.Fn.Kinds.{PK, RK, Out, Dens, resT, endedOf}
-use Rattle.queue.specs.Queue.{queues}
+use Rattle.queue.specs.Queue.{Queues, queues}
 use Rattle.nodeset.proofs.NodeSet.contains.Kinds as nodeset-contains-kinds
 use Rattle.nodeset.proofs.NodeSet.contains.Reads as nodeset-contains-reads
 use Rattle.nodeset.proofs.NodeSet.insert.Kinds as nodeset-insert-kinds
@@ -346,7 +346,7 @@ queue-push-one κs a x y s t p q = (refl, same p q)
 pub queue-pop-one : OneEnd _ queue-pop-kinds.ps queue-pop-kinds.r queue-pop-reads.Post (λ κs s. queues (now (s .0)) (now (s .1 .0)) (now (s .1 .1 .0)))
 queue-pop-one κs a x y s t p q = (refl, same p q)
 
-pub queue-deliver-one : OneEnd _ queue-deliver-kinds.ps queue-deliver-kinds.r queue-deliver-reads.Post (λ κs s. (queues (now (s .0)) (now (s .1 .0)) (now (s .1 .1 .0)), now (s .1 .1 .1 .0)))
+pub queue-deliver-one : OneEnd _ queue-deliver-kinds.ps queue-deliver-kinds.r queue-deliver-reads.Post {C = Queues × List ℕ} (λ κs s. (queues (now (s .0)) (now (s .1 .0)) (now (s .1 .1 .0)), now (s .1 .1 .1 .0)))
 queue-deliver-one κs a x y s t p q = (refl, λ i. (same (p .0) (q .0) i, same (p .1) (q .1) i))
 
 pub ranges-state-fits-one : OneResult _ ranges-state-fits-kinds.ps ranges-state-fits-kinds.r ranges-state-fits-reads.Post
