@@ -77,16 +77,21 @@ fn try_accepted(tally: &mut Tally, dice: &mut u64, net: Network, t: usize) {
     }
 }
 
-// A plan, damaged in two trials of eight.
+// Any plan, or one thing wrong in one; how many bytes it has.
+fn any_plan(bytes: &mut [u8], dice: &mut u64, damaged: bool) -> usize {
+    if damaged {
+        let wish = any_wish(dice, 4);
+        let size = make_plan(bytes, dice, wish);
+        return damage_plan(bytes, dice, size, wish.nodes);
+    }
+    let wish = any_wish(dice, 16);
+    make_plan(bytes, dice, wish)
+}
+
+// Two plans of eight are damaged.
 fn trial(tally: &mut Tally, dice: &mut u64, t: usize) {
     let mut bytes = [0u8; ROOM];
-    let damaged = t % 8 > 5;
-    let wish = any_wish(dice, if damaged { 4 } else { 16 });
-    let mut size = make_plan(&mut bytes, dice, wish);
-    if damaged {
-        let left = damage_plan(&mut bytes, dice, size, wish.nodes);
-        size = left;
-    }
+    let size = any_plan(&mut bytes, dice, t % 8 > 5);
     let planned = try_part(tally, &bytes, size);
     let net = planned.network;
     if planned.number == 0 {

@@ -133,7 +133,7 @@ fn step(
 }
 
 // Tries every action in its order.
-fn sweep(
+fn step_through(
     tally: &mut Tally,
     net: Network,
     begun: Walk,
@@ -152,24 +152,39 @@ fn sweep(
     walk
 }
 
+// The same from where a run has come to, and the states after it compared.
+fn sweep(
+    tally: &mut Tally,
+    net: Network,
+    begun: Walk,
+    list: &mut [u8],
+    order: &[u8],
+    count: usize,
+) -> Walk {
+    let before = begun.state;
+    let mut world = [0u16; WORLD];
+    draw_state(&mut world, net, before);
+    let walk = step_through(tally, net, begun, &mut world, list, order, count);
+    let after = walk.state;
+    same_state(tally, net, after, &world);
+    walk
+}
+
 // Sweeps in one order after another, until one takes nothing or so many are done.
 fn walk_on(
     tally: &mut Tally,
     dice: &mut u64,
     net: Network,
-    begun: Walk,
-    world: &mut World,
+    state: State,
     list: &mut [u8],
     sweeps: usize,
 ) -> Walk {
     let mut order = [0u8; ORDER];
     let count = list_actions(&mut order, net);
-    let mut walk = begun;
+    let mut walk = Walk { state, size: 0 };
     for _ in 0..sweeps {
         shuffle(&mut order, dice, count);
-        let next = sweep(tally, net, walk, world, list, &order, count);
-        let state = next.state;
-        same_state(tally, net, state, world);
+        let next = sweep(tally, net, walk, list, &order, count);
         if next.size == walk.size {
             return next;
         }
@@ -178,29 +193,13 @@ fn walk_on(
     walk
 }
 
-// A walk from a state, and what was taken once more as a list; the list and its size.
-fn walk_from(
-    tally: &mut Tally,
-    dice: &mut u64,
-    net: Network,
-    state: State,
-    list: &mut [u8],
-    sweeps: usize,
-) -> Walk {
-    let mut world = [0u16; WORLD];
-    draw_state(&mut world, net, state);
-    let begun = Walk { state, size: 0 };
-    let walk = walk_on(tally, dice, net, begun, &mut world, list, sweeps);
-    let last = try_part(tally, net, state, list, walk.size);
-    same_state(tally, net, last, &world);
-    walk
-}
-
-fn try_part(tally: &mut Tally, net: Network, state: State, list: &[u8], size: usize) -> State {
+// The first so many bytes of a list.
+fn try_part(tally: &mut Tally, net: Network, state: State, list: &[u8], size: usize) {
     if size < list.len() {
-        return try_list(tally, net, state, &list[0..size]).state;
+        try_list(tally, net, state, &list[0..size]);
+    } else {
+        try_list(tally, net, state, list);
     }
-    try_list(tally, net, state, list).state
 }
 
 // The list with one damage after another.
@@ -245,7 +244,7 @@ fn try_singles(tally: &mut Tally, dice: &mut u64, net: Network, state: State) {
     }
 }
 
-// So many sweeps from a state, the list of them whole and damaged, and single actions on the last state; that state.
+// So many sweeps from a state, what was taken as a list, whole and damaged, and single actions on the last state; that state.
 pub(crate) fn try_run(
     tally: &mut Tally,
     dice: &mut u64,
@@ -254,8 +253,9 @@ pub(crate) fn try_run(
     sweeps: usize,
 ) -> State {
     let mut list = [0u8; LIST];
-    let walk = walk_from(tally, dice, net, state, &mut list, sweeps);
+    let walk = walk_on(tally, dice, net, state, &mut list, sweeps);
     let last = walk.state;
+    try_part(tally, net, state, &list, walk.size);
     try_damaged(tally, dice, net, state, &mut list, walk.size);
     try_singles(tally, dice, net, last);
     last
