@@ -25,7 +25,6 @@
 // (p, q) with p other than q. An entry past the links is a cell of a direction's sheet whose two
 // nodes have no link, as (p, p) always is.
 
-mod actions;
 pub mod answers;
 mod bytes;
 mod checks;
@@ -36,6 +35,7 @@ mod nodes;
 mod ranges;
 mod reading;
 mod rounds;
+mod taking;
 
 pub use lists::act;
 pub use lists::run_actions;

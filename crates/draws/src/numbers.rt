@@ -1,0 +1,34 @@
+// Numbers from one width to another. A narrowing one keeps the low bytes.
+
+pub fn byte(x: usize) -> u8 {
+    (x % 256) as u8
+}
+
+pub fn word(x: usize) -> u16 {
+    (x % 65536) as u16
+}
+
+pub fn wide(x: usize) -> u64 {
+    x as u64
+}
+
+pub fn index(x: u64) -> usize {
+    x as usize
+}
+
+pub fn of_byte(x: u8) -> usize {
+    x as usize
+}
+
+pub fn of_word(x: u16) -> usize {
+    x as usize
+}
+
+// A sum that wraps, of numbers that are far from it.
+pub fn plus(x: usize, y: usize) -> usize {
+    std::num::wrapping_add_usize(x, y)
+}
+
+pub fn minus(x: usize, y: usize) -> usize {
+    std::num::wrapping_sub_usize(x, y)
+}
