@@ -1,16 +1,12 @@
 // A second simulator of document 01, written from the document alone, to hold the proved bench
-// against. It shares no code and no definition with any other crate, and keeps what it knows in
+// against. It shares no code and no definition with any proved crate, and keeps what it knows in
 // another shape: whatever belongs to a direction of a link or to a node is a cell of a 64 x 64 sheet,
 // found by the numbers of the two nodes, and no list of directions is kept. What is proved of it is
 // that every call is safe and ends, for every argument. That it is right is for a comparison to show.
 //
-// The caller lends two memories, which `memory` describes: a network, `[usize; PLAN]`, and a state,
-// `[u16; WORLD]`. Both may hold anything.
+// The caller lends two memories, which `second_plan::memory` describes: a network, `[usize; PLAN]`,
+// and a state, `[u16; WORLD]`. Both may hold anything. Plans are read by `second_plan::read_plan`.
 //
-//   memory::entry, set_entry    a number of a network, by row and place
-//   memory::cell, set_cell      a number of a state, by sheet and pair of nodes
-//   read_plan                   bytes to a network: answers 0 to 10
-//   clusters                    how many roots a network has
 //   network_outside             whether 17 applies to a network
 //   state_outside               whether 17 applies to a network or to a state of it
 //   start                       the start state: answers 0 and 17
@@ -25,24 +21,16 @@
 // (p, q) with p other than q. An entry past the links is a cell of a direction's sheet whose two
 // nodes have no link, as (p, p) always is.
 
-pub mod answers;
-mod bytes;
-mod checks;
 mod lists;
-pub mod memory;
 mod needs;
-mod nodes;
 mod ranges;
-mod reading;
 mod rounds;
 mod taking;
 
 pub use lists::act;
 pub use lists::run_actions;
 pub use lists::single_action;
-pub use nodes::clusters;
 pub use ranges::network_outside;
 pub use ranges::state_outside;
-pub use reading::read_plan;
 pub use rounds::start;
 pub use rounds::table;

@@ -1,12 +1,12 @@
 // Actions in a byte string, one of them and a list of them.
 
-use crate::answers::*;
-use crate::bytes::after;
-use crate::bytes::byte;
-use crate::bytes::cut_short;
-use crate::memory::*;
 use crate::ranges::state_outside;
 use crate::taking::take;
+use second_plan::answers::*;
+use second_plan::bytes::after;
+use second_plan::bytes::byte;
+use second_plan::bytes::cut_short;
+use second_plan::memory::*;
 ghost use Prim.Native.Nat.{_≤_};
 
 fn body(kind: usize) -> usize

@@ -2,11 +2,11 @@
 // least i": so each row of the table asks that the action's own count be below some other counts,
 // and the least of these decides. An action of one node p is that of the pair (p, p).
 
-use crate::memory::*;
-use crate::nodes::is_child;
-use crate::nodes::is_root;
-use crate::nodes::linked;
-use crate::nodes::preferred;
+use second_plan::memory::*;
+use second_plan::nodes::is_child;
+use second_plan::nodes::is_root;
+use second_plan::nodes::linked;
+use second_plan::nodes::preferred;
 
 // Above every count: the answer for a node of which an action needs nothing.
 const NO_NEED: usize = 65536;

@@ -1,10 +1,10 @@
 // Answer 17: a handed-in network or state outside the ranges. Both memories are walked whole, so
 // that what stands past the nodes, past the links or past a queue's length is seen too.
 
-use crate::memory::*;
-use crate::nodes::enter_sets;
-use crate::nodes::linked;
-use crate::reading::rises;
+use second_plan::memory::*;
+use second_plan::nodes::enter_sets;
+use second_plan::nodes::linked;
+use second_plan::rises;
 
 // "nodes, links or rounds are outside their limits"
 fn head_outside(plan: &Plan) -> bool {

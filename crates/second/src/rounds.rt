@@ -1,9 +1,9 @@
 // The value of a round, the start state and the lockstep table.
 
-use crate::answers::*;
-use crate::memory::*;
-use crate::nodes::linked;
 use crate::ranges::network_outside;
+use second_plan::answers::*;
+use second_plan::memory::*;
+use second_plan::nodes::linked;
 ghost use Prim.Native.Nat.{_<_, _≤_};
 ghost use lib.ListN.{length};
 

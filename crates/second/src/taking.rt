@@ -1,13 +1,13 @@
 // One action: its refusals in their order, and what it does. An action of one node p is that of the
 // pair (p, p).
 
-use crate::answers::*;
-use crate::memory::*;
 use crate::needs::least_need;
-use crate::nodes::is_root;
-use crate::nodes::linked;
-use crate::nodes::preferred;
 use crate::rounds::input;
+use second_plan::answers::*;
+use second_plan::memory::*;
+use second_plan::nodes::is_root;
+use second_plan::nodes::linked;
+use second_plan::nodes::preferred;
 ghost use Prim.Native.Nat.{_≤_};
 
 // "no such link, link not preferred (27, 28), a root where a parent is needed, no root for 24, 31"

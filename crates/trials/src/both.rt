@@ -8,7 +8,7 @@ use crate::tally::same;
 use crate::tally::same_answer;
 use network::Network;
 use records::Planned;
-use second::memory::*;
+use second_plan::memory::*;
 use synchronizer::Acted;
 use synchronizer::Done;
 use synchronizer::Ran;
@@ -20,7 +20,7 @@ pub(crate) type Action = [u8; 3];
 pub(crate) fn try_plan(tally: &mut Tally, bytes: &[u8]) -> Planned {
     let mut plan = [0usize; PLAN];
     let ours = plan::read_plan(bytes);
-    let theirs = second::read_plan(&mut plan, bytes);
+    let theirs = second_plan::read_plan(&mut plan, bytes);
     same_answer(tally, b", plan's answer ", ours.number, theirs.number);
     same(tally, b", plan's place ", ours.place, theirs.place);
     let net = ours.network;

@@ -25,7 +25,7 @@ use draws::numbers::minus;
 use draws::numbers::of_word;
 use draws::numbers::plus;
 use network::Network;
-use second::memory::*;
+use second_plan::memory::*;
 use synchronizer::State;
 
 // How many ways a network and a state are spoilt.

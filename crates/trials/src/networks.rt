@@ -6,7 +6,7 @@ use draws::numbers::of_byte;
 use draws::numbers::of_word;
 use draws::numbers::word;
 use network::Network;
-use second::memory::*;
+use second_plan::memory::*;
 
 fn draw_bytes(plan: &mut Plan, row: usize, xs: &[u8]) {
     for i in 0..xs.len() {

@@ -25,7 +25,7 @@ use draws::numbers::of_byte;
 use draws::numbers::of_word;
 use draws::numbers::plus;
 use network::Network;
-use second::memory::*;
+use second_plan::memory::*;
 use synchronizer::State;
 
 // Room for the actions of a run: three rounds, and none has more than 6,144 bytes.

@@ -11,7 +11,7 @@ use draws::numbers::of_word;
 use draws::numbers::plus;
 use draws::numbers::word;
 use network::Network;
-use second::memory::*;
+use second_plan::memory::*;
 use synchronizer::State;
 
 // The lists of a state one after the other, and where each starts.

@@ -10,7 +10,7 @@ use draws::numbers::of_word;
 use draws::numbers::plus;
 use draws::numbers::word;
 use network::Network;
-use second::memory::Plan;
+use second_plan::memory::Plan;
 
 const ROOM: usize = 80;
 

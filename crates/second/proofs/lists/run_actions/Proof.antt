@@ -16,4 +16,4 @@ abbrev μ-loop : tie.MeasureT-loop
 pub run-actions-spec : {M : Type 1} → statement M
 run-actions-spec =
     tie.close
-    (tie.spec Inv-loop μ-loop (λ c κs. search needs) (λ c κs. search needs) (λ c. search needs) (λ c. search needs) (λ c κs. search needs) (λ c. search needs) (λ c κs. search needs) (λ c κs. search needs) (λ c κs. search needs) (λ c. search needs) (λ c. search needs) (λ c. search needs) (λ c. search needs))
+    (tie.spec Inv-loop μ-loop (λ c κs. search needs) (λ c κs. search needs) (λ c. search needs) (λ c. search needs) (λ c κs. search needs) (λ c. search needs) (λ c κs. search needs) (λ c κs. search needs) (λ c κs. search needs) (λ c. search needs) (λ c. let further = c .after .ensures .1 (search needs) in search needs) (λ c. let further = c .after .ensures .1 (search needs) in search needs) (λ c. search needs))

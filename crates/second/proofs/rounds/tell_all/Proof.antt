@@ -4,7 +4,7 @@ use borrow.Author.Needs.{needs}
 use Prim.Native.Nat.{_≤_, _-_}
 use Rattle.second.proofs.rounds.tell_all.Statement.{statement}
 use Rattle.second.proofs.rounds.tell_all.Tie as tie
-use Rattle.second.proofs.memory.cell.Reads as cell-reads
+use Rattle.second_plan.proofs.memory.cell.Reads as cell-reads
 
 abbrev Inv-loop : tie.InvT-loop
 Inv-loop world₀ i₀ world i = i ≤ 4096

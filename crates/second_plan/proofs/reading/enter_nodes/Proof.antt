@@ -1,0 +1,17 @@
+-- `reading::enter_nodes` is safe and ends: p counts up to 64, and each call in the loop takes any
+-- argument. Assumes nothing.
+use borrow.Author.Needs.{needs}
+use Prim.Native.Nat.{_≤_, _-_}
+use Rattle.second_plan.proofs.reading.enter_nodes.Statement.{statement}
+use Rattle.second_plan.proofs.reading.enter_nodes.Tie as tie
+
+abbrev Inv-loop : tie.InvT-loop
+Inv-loop plan₀ bytes nodes p₀ plan p = p ≤ 64
+
+abbrev μ-loop : tie.MeasureT-loop
+μ-loop plan₀ bytes nodes p₀ plan p = 64 - p
+
+pub enter-nodes-spec : {M : Type 1} → statement M
+enter-nodes-spec =
+    tie.close
+    (tie.spec Inv-loop μ-loop (λ c. search needs) (λ c κs. search needs) (λ c. search needs) (λ c. search needs) (λ c. search needs) (λ c. search needs))
