@@ -1,16 +1,15 @@
 // Trials of the bench against the second simulator. Each side gets the same bytes, networks, states and buffers, and every answer, place,
 // count, value, state and buffer that comes back is compared. What is tried is drawn from a seed, so that every run tries the same.
-mod both;
 mod handed;
 mod known;
-mod networks;
 mod runs;
-mod states;
-mod tables;
-mod tally;
 
-use both::try_plan;
-use both::try_start;
+use compare::both::try_part;
+use compare::both::try_start;
+use compare::tables::try_tables;
+use compare::tally::Tally;
+use compare::tally::begin;
+use compare::tally::report;
 use draws::damage::damage_plan;
 use draws::dice::below;
 use draws::numbers::plus;
@@ -18,8 +17,6 @@ use draws::plans::ROOM;
 use draws::plans::Wish;
 use draws::plans::make_plan;
 use network::Network;
-use records::Planned;
-use tally::Tally;
 
 const SEED: u64 = 588;
 
@@ -47,14 +44,6 @@ fn any_wish(dice: &mut u64, large: usize) -> Wish {
     }
 }
 
-// The first so many bytes, read as a plan.
-fn try_part(tally: &mut Tally, bytes: &[u8], size: usize) -> Planned {
-    if size < bytes.len() {
-        return try_plan(tally, &bytes[0..size]);
-    }
-    try_plan(tally, bytes)
-}
-
 // Whole runs of small networks, runs broken off of any.
 fn try_runs(tally: &mut Tally, dice: &mut u64, net: Network) {
     let sweeps = below(dice, 8);
@@ -73,19 +62,19 @@ fn try_accepted(tally: &mut Tally, dice: &mut u64, net: Network, t: usize) {
         2 => handed::try_spoilt_network(tally, dice, net, t / 8 % handed::NETWORK_WAYS),
         3 => handed::try_spoilt_state(tally, dice, net, t / 8 % handed::STATE_WAYS),
         4 => handed::try_any_state(tally, dice, net),
-        _ => tables::try_tables(tally, dice, net),
+        _ => try_tables(tally, dice, net),
     }
 }
 
 // Any plan, or one thing wrong in one; how many bytes it has.
 fn any_plan(bytes: &mut [u8], dice: &mut u64, damaged: bool) -> usize {
+    let large = if damaged { 4 } else { 16 };
+    let wish = any_wish(dice, large);
+    let size = make_plan(bytes, dice, wish);
     if damaged {
-        let wish = any_wish(dice, 4);
-        let size = make_plan(bytes, dice, wish);
         return damage_plan(bytes, dice, size, wish.nodes);
     }
-    let wish = any_wish(dice, 16);
-    make_plan(bytes, dice, wish)
+    size
 }
 
 // Two plans of eight are damaged.
@@ -104,8 +93,8 @@ fn main() {
     let mut dice = SEED;
     known::try_known(&mut tally, &mut dice);
     for t in 0..TRIALS {
-        tally::begin(&mut tally);
+        begin(&mut tally);
         trial(&mut tally, &mut dice, t);
     }
-    tally::report(&tally);
+    report(&tally);
 }

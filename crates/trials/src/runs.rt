@@ -1,20 +1,20 @@
 // Runs in random delivery orders, from the start state or another, broken off or to the end; then what was taken as a list, whole and
 // damaged; and single actions out of turn.
-use crate::both::Action;
-use crate::both::try_act;
-use crate::both::try_list;
-use crate::both::try_method;
-use crate::both::try_start;
-use crate::networks::plan_of;
-use crate::states::Pairs;
-use crate::states::draw_state;
-use crate::states::of_directions;
-use crate::states::pair;
-use crate::states::pairs_of;
-use crate::states::same_state;
-use crate::tally::Tally;
-use crate::tally::same;
-use crate::tally::same_answer;
+use compare::both::Action;
+use compare::both::try_act;
+use compare::both::try_list;
+use compare::both::try_method;
+use compare::both::try_start;
+use compare::networks::plan_of;
+use compare::states::Pairs;
+use compare::states::draw_state;
+use compare::states::of_directions;
+use compare::states::pair;
+use compare::states::pairs_of;
+use compare::states::same_state;
+use compare::tally::Tally;
+use compare::tally::same;
+use compare::tally::same_answer;
 use draws::bytes::append;
 use draws::bytes::exchange;
 use draws::bytes::get;
