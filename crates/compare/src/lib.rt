@@ -1,7 +1,5 @@
-// The bench beside the second simulator: one call made of both with the same bytes, network, state or buffer, everything that comes back
-// compared, and a tally of it. What is proved of it is that every call is safe and ends.
-pub mod both;
+// The bench's network and state beside the second simulator's, number by number, and a tally of what was compared. What is proved of it is
+// that every call is safe and ends.
 pub mod networks;
 pub mod states;
-pub mod tables;
 pub mod tally;

@@ -3,13 +3,14 @@
 // A number is called by its row, one of the second simulator's sheets, and by its place x in the row: a node, a direction of a link (2l from
 // a to b of link l, 2l + 1 from b to a), or one past them. Its code is 256 times the row and x.
 use crate::tally::Tally;
-use crate::tally::same_list;
+use crate::tally::same_words;
 use draws::numbers::byte;
 use draws::numbers::minus;
 use draws::numbers::of_byte;
 use draws::numbers::of_word;
 use draws::numbers::plus;
 use draws::numbers::word;
+use draws::numbers::word_at;
 use network::Network;
 use second::memory::*;
 use synchronizer::State;
@@ -50,7 +51,7 @@ fn index_of(code: usize) -> usize {
 }
 
 pub fn number(numbers: &Numbers, row: usize, x: usize) -> usize {
-    number_at(numbers, index_of(plus(row % 64 * 256, x)))
+    word_at(numbers, index_of(plus(row % 64 * 256, x)))
 }
 
 pub fn set_number(numbers: &mut Numbers, row: usize, x: usize, to: usize) {
@@ -104,22 +105,15 @@ fn numbers_of(state: State) -> Numbers {
     numbers
 }
 
-fn number_at(numbers: &Numbers, i: usize) -> usize {
-    if i < NUMBERS {
-        return of_word(numbers[i]);
-    }
-    0
-}
-
 fn fill_words(xs: &mut [u16], numbers: &Numbers, at: usize) {
     for i in 0..xs.len() {
-        xs[i] = word(number_at(numbers, plus(at, i)));
+        xs[i] = word(word_at(numbers, plus(at, i)));
     }
 }
 
 fn fill_bytes(xs: &mut [u8], numbers: &Numbers, at: usize) {
     for i in 0..xs.len() {
-        xs[i] = byte(number_at(numbers, plus(at, i)));
+        xs[i] = byte(word_at(numbers, plus(at, i)));
     }
 }
 
@@ -271,23 +265,10 @@ fn read_numbers(world: &World, pairs: &Pairs) -> Numbers {
     numbers
 }
 
-// The first place at which two states differ.
-fn first_difference(a: &Numbers, b: &Numbers) -> usize {
-    for i in 0..NUMBERS {
-        if a[i] != b[i] {
-            return i;
-        }
-    }
-    NUMBERS
-}
-
 // The bench's state is the second simulator's.
 pub fn same_state(tally: &mut Tally, net: Network, state: State, world: &World) {
     let pairs = pairs_of(net);
     let ours = numbers_of(state);
     let theirs = read_numbers(world, &pairs);
-    let i = first_difference(&ours, &theirs);
-    let bench = number_at(&ours, i);
-    let second = number_at(&theirs, i);
-    same_list(tally, b", state entry ", NUMBERS, i, bench, second);
+    same_words(tally, b", state entry ", &ours, &theirs);
 }

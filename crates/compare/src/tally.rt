@@ -2,6 +2,7 @@
 // differed. The first difference of a trial is written out with the trial's number.
 use draws::numbers::of_byte;
 use draws::numbers::plus;
+use draws::numbers::word_at;
 use libc::STDOUT_FILENO;
 
 // The answers by number; the clauses of 17 in document 01's order; and then the other counts.
@@ -68,6 +69,24 @@ pub fn same_list(
     if place < size {
         differ(tally, what, place, bench, second);
     }
+}
+
+// The first place at which two lists differ.
+fn first_difference(a: &[u16], b: &[u16]) -> usize {
+    for i in 0..a.len() {
+        if word_at(a, i) != word_at(b, i) {
+            return i;
+        }
+    }
+    a.len()
+}
+
+// Two lists of one length that have to be the same.
+pub fn same_words(tally: &mut Tally, what: &[u8], bench: &[u16], second: &[u16]) {
+    let i = first_difference(bench, second);
+    let x = word_at(bench, i);
+    let y = word_at(second, i);
+    same_list(tally, what, bench.len(), i, x, y);
 }
 
 pub fn same(tally: &mut Tally, what: &[u8], bench: usize, second: usize) {

@@ -4,14 +4,16 @@ mod handed;
 mod known;
 mod runs;
 
-use compare::both::try_part;
-use compare::both::try_start;
-use compare::tables::try_tables;
+use calls::both::try_part;
+use calls::both::try_start;
+use calls::tables::try_tables;
 use compare::tally::Tally;
 use compare::tally::begin;
 use compare::tally::report;
+use compare::tally::same;
 use draws::damage::damage_plan;
 use draws::dice::below;
+use draws::numbers::of_byte;
 use draws::numbers::plus;
 use draws::plans::ROOM;
 use draws::plans::Wish;
@@ -57,10 +59,10 @@ fn try_runs(tally: &mut Tally, dice: &mut u64, net: Network) {
 
 // Something of an accepted plan, by the number of the trial, so that each way of spoiling comes up.
 fn try_accepted(tally: &mut Tally, dice: &mut u64, net: Network, t: usize) {
-    match t % 8 {
+    match t % 10 {
         0 | 1 => try_runs(tally, dice, net),
-        2 => handed::try_spoilt_network(tally, dice, net, t / 8 % handed::NETWORK_WAYS),
-        3 => handed::try_spoilt_state(tally, dice, net, t / 8 % handed::STATE_WAYS),
+        2 => handed::try_spoilt_network(tally, dice, net, t / 10 % handed::NETWORK_WAYS),
+        3 => handed::try_spoilt_state(tally, dice, net, t / 10 % handed::STATE_WAYS),
         4 => handed::try_any_state(tally, dice, net),
         _ => try_tables(tally, dice, net),
     }
@@ -77,14 +79,17 @@ fn any_plan(bytes: &mut [u8], dice: &mut u64, damaged: bool) -> usize {
     size
 }
 
-// Two plans of eight are damaged.
+// Four plans of ten are damaged; the others have to be accepted.
 fn trial(tally: &mut Tally, dice: &mut u64, t: usize) {
     let mut bytes = [0u8; ROOM];
-    let size = any_plan(&mut bytes, dice, t % 8 > 5);
+    let damaged = t % 10 > 5;
+    let size = any_plan(&mut bytes, dice, damaged);
     let planned = try_part(tally, &bytes, size);
     let net = planned.network;
     if planned.number == 0 {
         try_accepted(tally, dice, net, t);
+    } else if !damaged {
+        same(tally, b", known answer ", of_byte(planned.number), 0);
     }
 }
 

@@ -1,10 +1,10 @@
 // Runs in random delivery orders, from the start state or another, broken off or to the end; then what was taken as a list, whole and
 // damaged; and single actions out of turn.
-use compare::both::Action;
-use compare::both::try_act;
-use compare::both::try_list;
-use compare::both::try_method;
-use compare::both::try_start;
+use calls::both::Action;
+use calls::both::try_act;
+use calls::both::try_list;
+use calls::both::try_method;
+use calls::both::try_start;
 use compare::networks::plan_of;
 use compare::states::Pairs;
 use compare::states::draw_state;

@@ -1,8 +1,8 @@
 // Lockstep tables from both sides, in buffers that hold something before.
-use crate::networks::plan_of;
-use crate::tally::Tally;
-use crate::tally::same_answer;
-use crate::tally::same_list;
+use compare::networks::plan_of;
+use compare::tally::Tally;
+use compare::tally::same_answer;
+use compare::tally::same_words;
 use draws::dice::below;
 use draws::dice::roll;
 use draws::numbers::minus;
@@ -38,22 +38,6 @@ fn second_table(plan: &Plan, rounds: u16, out: &mut [u16], room: usize) -> u8 {
     second::table(plan, of_word(rounds), out)
 }
 
-fn first_difference(a: &Buffer, b: &Buffer) -> usize {
-    for i in 0..ROOM {
-        if a[i] != b[i] {
-            return i;
-        }
-    }
-    ROOM
-}
-
-fn number_at(out: &Buffer, i: usize) -> usize {
-    if i < ROOM {
-        return of_word(out[i]);
-    }
-    0
-}
-
 // A table of so many rounds in a buffer of so many entries.
 pub fn try_table(tally: &mut Tally, dice: &mut u64, net: Network, rounds: u16, room: usize) {
     let plan = plan_of(net);
@@ -62,10 +46,7 @@ pub fn try_table(tally: &mut Tally, dice: &mut u64, net: Network, rounds: u16, r
     let bench = bench_table(net, rounds, &mut ours, room);
     let second = second_table(&plan, rounds, &mut theirs, room);
     same_answer(tally, b", table's answer ", bench, second);
-    let i = first_difference(&ours, &theirs);
-    let x = number_at(&ours, i);
-    let y = number_at(&theirs, i);
-    same_list(tally, b", table entry ", ROOM, i, x, y);
+    same_words(tally, b", table entry ", &ours, &theirs);
 }
 
 // Tables of no rounds, of the plan's and of one more; in buffers with room, with just enough, and short by one.

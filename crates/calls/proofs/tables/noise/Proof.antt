@@ -2,8 +2,8 @@
 -- Assumes nothing.
 use borrow.Author.Needs.{needs}
 use Prim.Native.Nat.{_≤_, _-_}
-use Rattle.compare.proofs.tables.noise.Statement.{statement}
-use Rattle.compare.proofs.tables.noise.Tie as tie
+use Rattle.calls.proofs.tables.noise.Statement.{statement}
+use Rattle.calls.proofs.tables.noise.Tie as tie
 
 abbrev Inv-loop : tie.InvT-loop
 Inv-loop dice₀ out₀ i₀ dice out i = i ≤ 80

@@ -1,11 +1,11 @@
 // One call, made of both sides with the same bytes, network, state or buffer, and what comes back compared.
-use crate::networks::plan_of;
-use crate::networks::same_network;
-use crate::states::draw_state;
-use crate::states::same_state;
-use crate::tally::Tally;
-use crate::tally::same;
-use crate::tally::same_answer;
+use compare::networks::plan_of;
+use compare::networks::same_network;
+use compare::states::draw_state;
+use compare::states::same_state;
+use compare::tally::Tally;
+use compare::tally::same;
+use compare::tally::same_answer;
 use network::Network;
 use records::Planned;
 use second::memory::*;
