@@ -221,6 +221,14 @@ pub fn of_directions(row: usize) -> bool {
     }
 }
 
+// How many nodes or directions a row has.
+pub fn used_by(net: Network, row: usize) -> usize {
+    if of_directions(row) {
+        return net.links % 129 * 2;
+    }
+    net.nodes
+}
+
 // The pair of nodes of place x of a row. A node's is (x, x), and one past all nodes has one beside it.
 fn pair_at(pairs: &Pairs, row: usize, x: usize) -> usize {
     if of_directions(row) {

@@ -1,8 +1,7 @@
 // Trials of the bench against the second simulator. Each side gets the same bytes, networks, states and buffers, and every answer, place,
 // count, value, state and buffer that comes back is compared. What is tried is drawn from a seed, so that every run tries the same.
-mod handed;
 mod known;
-mod runs;
+mod spoilt;
 
 use calls::both::try_part;
 use calls::both::try_start;
@@ -24,9 +23,9 @@ const SEED: u64 = 588;
 
 const TRIALS: usize = 3000;
 
-// Most plans are small; some have any size, and one in so many the largest.
-fn any_wish(dice: &mut u64, large: usize) -> Wish {
-    let nodes = match below(dice, large) {
+// Most plans are small; some have any size, and some the largest.
+fn any_wish(dice: &mut u64) -> Wish {
+    let nodes = match below(dice, 10) {
         0 => 64,
         1 => plus(below(dice, 64), 1),
         _ => plus(below(dice, 10), 1),
@@ -61,17 +60,16 @@ fn try_runs(tally: &mut Tally, dice: &mut u64, net: Network) {
 fn try_accepted(tally: &mut Tally, dice: &mut u64, net: Network, t: usize) {
     match t % 10 {
         0 | 1 => try_runs(tally, dice, net),
-        2 => handed::try_spoilt_network(tally, dice, net, t / 10 % handed::NETWORK_WAYS),
-        3 => handed::try_spoilt_state(tally, dice, net, t / 10 % handed::STATE_WAYS),
-        4 => handed::try_any_state(tally, dice, net),
+        2 => spoilt::try_spoilt_network(tally, dice, net, t / 10 % handed::NETWORK_WAYS),
+        3 => spoilt::try_spoilt_state(tally, dice, net, t / 10 % handed::STATE_WAYS),
+        4 => spoilt::try_any_state(tally, dice, net),
         _ => try_tables(tally, dice, net),
     }
 }
 
 // Any plan, or one thing wrong in one; how many bytes it has.
 fn any_plan(bytes: &mut [u8], dice: &mut u64, damaged: bool) -> usize {
-    let large = if damaged { 4 } else { 16 };
-    let wish = any_wish(dice, large);
+    let wish = any_wish(dice);
     let size = make_plan(bytes, dice, wish);
     if damaged {
         return damage_plan(bytes, dice, size, wish.nodes);

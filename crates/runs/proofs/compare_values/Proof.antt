@@ -1,9 +1,9 @@
--- `runs::compare_values` is safe and ends: p counts up to 64.
+-- `compare_values` is safe and ends: p counts up to 64.
 -- Assumes nothing.
 use borrow.Author.Needs.{needs}
 use Prim.Native.Nat.{_≤_, _-_}
-use Rattle.trials.proofs.runs.compare_values.Statement.{statement}
-use Rattle.trials.proofs.runs.compare_values.Tie as tie
+use Rattle.runs.proofs.compare_values.Statement.{statement}
+use Rattle.runs.proofs.compare_values.Tie as tie
 
 abbrev Inv-loop : tie.InvT-loop
 Inv-loop tally₀ values table p₀ t5 tally p = p ≤ 64

@@ -1,11 +1,11 @@
--- `runs::try_damaged` is safe and ends: three turns, and the list keeps its length.
+-- `try_damaged` is safe and ends: three turns, and the list keeps its length.
 -- Assumes nothing.
 use borrow.Author.Needs.{needs}
 use Prim.Native.Nat.{_≤_, _-_}
 use mathlib.Core.Path.{_≡_}
 use lib.ListN.{length}
-use Rattle.trials.proofs.runs.try_damaged.Statement.{statement}
-use Rattle.trials.proofs.runs.try_damaged.Tie as tie
+use Rattle.runs.proofs.try_damaged.Statement.{statement}
+use Rattle.runs.proofs.try_damaged.Tie as tie
 
 abbrev Inv-loop : tie.InvT-loop
 Inv-loop tally₀ dice₀ net state list₀ size left₀ counter₀ tally dice list left counter = (counter ≤ 3) × (length list ≡ length list₀)

@@ -1,11 +1,11 @@
--- `runs::list_actions` is safe and ends: i counts up to the codes of actions, and the list keeps its length.
+-- `list_actions` is safe and ends: i counts up to the codes of actions, and the list keeps its length.
 -- Assumes nothing.
 use borrow.Author.Needs.{needs}
 use Prim.Native.Nat.{_≤_, _-_}
 use mathlib.Core.Path.{_≡_}
 use lib.ListN.{length}
-use Rattle.trials.proofs.runs.list_actions.Statement.{statement}
-use Rattle.trials.proofs.runs.list_actions.Tie as tie
+use Rattle.runs.proofs.list_actions.Statement.{statement}
+use Rattle.runs.proofs.list_actions.Tie as tie
 
 abbrev Inv-loop : tie.InvT-loop
 Inv-loop order₀ net pairs size₀ i₀ order size i = (i ≤ 5120) × (length order ≡ length order₀)

@@ -1,11 +1,11 @@
--- `runs::shuffle` is safe and ends: i counts up to the number of actions, and the list keeps its length.
+-- `shuffle` is safe and ends: i counts up to the number of actions, and the list keeps its length.
 -- Assumes nothing.
 use borrow.Author.Needs.{needs}
 use Prim.Native.Nat.{_≤_, _-_}
 use mathlib.Core.Path.{_≡_}
 use lib.ListN.{length}
-use Rattle.trials.proofs.runs.shuffle.Statement.{statement}
-use Rattle.trials.proofs.runs.shuffle.Tie as tie
+use Rattle.runs.proofs.shuffle.Statement.{statement}
+use Rattle.runs.proofs.shuffle.Tie as tie
 
 abbrev Inv-loop : tie.InvT-loop
 Inv-loop order₀ dice₀ count i₀ order dice i = (i ≤ count) × (length order ≡ length order₀)

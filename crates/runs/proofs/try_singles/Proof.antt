@@ -1,9 +1,9 @@
--- `runs::try_singles` is safe and ends: two turns, and each call in the loop takes any argument.
+-- `try_singles` is safe and ends: two turns, and each call in the loop takes any argument.
 -- Assumes nothing.
 use borrow.Author.Needs.{needs}
 use Prim.Native.Nat.{_≤_, _-_}
-use Rattle.trials.proofs.runs.try_singles.Statement.{statement}
-use Rattle.trials.proofs.runs.try_singles.Tie as tie
+use Rattle.runs.proofs.try_singles.Statement.{statement}
+use Rattle.runs.proofs.try_singles.Tie as tie
 
 abbrev Inv-loop : tie.InvT-loop
 Inv-loop tally₀ dice₀ net state counter₀ tally dice counter = counter ≤ 2

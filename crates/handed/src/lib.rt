@@ -1,14 +1,6 @@
 // Networks and states as a caller may hand them in: with one entry changed, so that a clause of 17 applies; networks that no plan gives and
-// 17 lets pass; states that no run comes to, with queues full or at odds with the counts.
-use crate::runs::any_action;
-use crate::runs::try_run;
-use crate::runs::used_by;
-use calls::both::Action;
-use calls::both::try_act;
-use calls::both::try_list;
-use calls::both::try_method;
-use calls::both::try_start;
-use calls::tables::try_table;
+// 17 lets pass; states that no run comes to, with queues full or at odds with the counts. What is proved of it is that every call is safe
+// and ends.
 use compare::networks::network_of;
 use compare::networks::plan_of;
 use compare::states::CODES;
@@ -16,9 +8,7 @@ use compare::states::NUMBERS;
 use compare::states::Numbers;
 use compare::states::number;
 use compare::states::set_number;
-use compare::states::state_of;
-use compare::tally::Tally;
-use compare::tally::count_clause;
+use compare::states::used_by;
 use draws::dice::below;
 use draws::dice::once_in;
 use draws::numbers::minus;
@@ -26,12 +16,11 @@ use draws::numbers::of_word;
 use draws::numbers::plus;
 use network::Network;
 use second::memory::*;
-use synchronizer::State;
 
 // How many ways a network and a state are spoilt.
-pub(crate) const NETWORK_WAYS: usize = 13;
+pub const NETWORK_WAYS: usize = 13;
 
-pub(crate) const STATE_WAYS: usize = 7;
+pub const STATE_WAYS: usize = 7;
 
 // The clauses of 17, counted in document 01.
 const LIMITS: usize = 1;
@@ -112,7 +101,7 @@ fn fill_past(plan: &mut Plan, dice: &mut u64) -> usize {
 }
 
 // One entry of a network changed in one of so many ways; the clause that then applies.
-fn spoil_network(plan: &mut Plan, dice: &mut u64, way: usize) -> usize {
+pub fn spoil_network(plan: &mut Plan, dice: &mut u64, way: usize) -> usize {
     let nodes = entry(plan, HEAD, NODES);
     let p = below(dice, nodes);
     let l = below(dice, entry(plan, HEAD, LINKS));
@@ -139,7 +128,7 @@ fn spoil_network(plan: &mut Plan, dice: &mut u64, way: usize) -> usize {
 }
 
 // The network of a spoilt plan. Of a changed list the sets are made again half the time, so that nothing but the list is wrong.
-fn network_from(plan: &Plan, dice: &mut u64, way: usize) -> Network {
+pub fn network_from(plan: &Plan, dice: &mut u64, way: usize) -> Network {
     let net = network_of(plan);
     if way > PREFERRED {
         if once_in(dice, 2) {
@@ -147,29 +136,6 @@ fn network_from(plan: &Plan, dice: &mut u64, way: usize) -> Network {
         }
     }
     net
-}
-
-// A network and a state of which 17 is to be said.
-fn try_handed(tally: &mut Tally, net: Network, state: State, action: &Action, clause: usize) {
-    try_act(tally, net, state, action);
-    try_act(tally, net, state, b"");
-    try_method(tally, net, state, action);
-    let ran = try_list(tally, net, state, action);
-    if ran.answer == 17 {
-        count_clause(tally, clause);
-    }
-}
-
-// A network with one entry changed, handed in to everything that takes one.
-pub(crate) fn try_spoilt_network(tally: &mut Tally, dice: &mut u64, net: Network, way: usize) {
-    let mut plan = plan_of(net);
-    let clause = spoil_network(&mut plan, dice, way);
-    let spoilt = network_from(&plan, dice, way);
-    let state = State::start(net).state;
-    let action = any_action(dice, net.nodes);
-    try_table(tally, dice, spoilt, 1, 64);
-    try_start(tally, spoilt);
-    try_handed(tally, spoilt, state, &action, clause);
 }
 
 fn any_sort(dice: &mut u64, waits: bool) -> usize {
@@ -201,7 +167,7 @@ fn any_number(dice: &mut u64, numbers: &Numbers, rounds: usize, row: usize, x: u
 }
 
 // Any state of a network that 17 lets pass.
-fn any_numbers(dice: &mut u64, net: Network) -> Numbers {
+pub fn any_numbers(dice: &mut u64, net: Network) -> Numbers {
     let mut numbers = [0u16; NUMBERS];
     for i in 0..CODES {
         let row = OUTPUT + i / 256;
@@ -243,7 +209,7 @@ fn number_past(numbers: &mut Numbers, dice: &mut u64, net: Network) -> usize {
 }
 
 // One entry of a state changed in one of so many ways, after one message was made to wait on a direction; the clause that then applies.
-fn spoil_state(numbers: &mut Numbers, dice: &mut u64, net: Network, way: usize) -> usize {
+pub fn spoil_state(numbers: &mut Numbers, dice: &mut u64, net: Network, way: usize) -> usize {
     let d = below(dice, net.links % 129 * 2);
     let some = plus(below(dice, 255), 1);
     let sort = if way == 3 { ACK } else { PACKET };
@@ -274,18 +240,6 @@ fn spoil_state(numbers: &mut Numbers, dice: &mut u64, net: Network, way: usize) 
     }
 }
 
-// A state with one entry changed, of a network that has links.
-pub(crate) fn try_spoilt_state(tally: &mut Tally, dice: &mut u64, net: Network, way: usize) {
-    if net.links == 0 {
-        return;
-    }
-    let mut numbers = any_numbers(dice, net);
-    let clause = spoil_state(&mut numbers, dice, net, way);
-    let state = state_of(&numbers);
-    let action = any_action(dice, net.nodes);
-    try_handed(tally, net, state, &action, clause);
-}
-
 // Any parents, and any links preferred.
 fn loosen(plan: &mut Plan, dice: &mut u64) {
     let nodes = entry(plan, HEAD, NODES);
@@ -300,24 +254,8 @@ fn loosen(plan: &mut Plan, dice: &mut u64) {
 }
 
 // A network that 17 lets pass, though its parents may run in rings and its preferred links join what they like.
-fn loose_network(dice: &mut u64, net: Network) -> Network {
+pub fn loose_network(dice: &mut u64, net: Network) -> Network {
     let mut plan = plan_of(net);
     loosen(&mut plan, dice);
     network_of(&plan).with_sets()
-}
-
-fn try_state(tally: &mut Tally, dice: &mut u64, net: Network) {
-    let numbers = any_numbers(dice, net);
-    let state = state_of(&numbers);
-    try_run(tally, dice, net, state, 1);
-}
-
-// Any state of a network: all its actions once, and some single ones.
-pub(crate) fn try_any_state(tally: &mut Tally, dice: &mut u64, net: Network) {
-    if once_in(dice, 2) {
-        try_state(tally, dice, net);
-    } else {
-        let loose = loose_network(dice, net);
-        try_state(tally, dice, loose);
-    }
 }

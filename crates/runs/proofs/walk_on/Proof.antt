@@ -1,11 +1,11 @@
--- `runs::walk_on` is safe and ends: at most so many turns, and the two lists keep their lengths.
+-- `walk_on` is safe and ends: at most so many turns, and the two lists keep their lengths.
 -- Assumes nothing.
 use borrow.Author.Needs.{needs}
 use Prim.Native.Nat.{_≤_, _-_}
 use mathlib.Core.Path.{_≡_}
 use lib.ListN.{length}
-use Rattle.trials.proofs.runs.walk_on.Statement.{statement}
-use Rattle.trials.proofs.runs.walk_on.Tie as tie
+use Rattle.runs.proofs.walk_on.Statement.{statement}
+use Rattle.runs.proofs.walk_on.Tie as tie
 
 abbrev Inv-loop : tie.InvT-loop
 Inv-loop tally₀ dice₀ net list₀ sweeps order₀ count walk₀ counter₀ tally dice list order walk counter = (counter ≤ sweeps) × ((length list ≡ length list₀) × (length order ≡ 7296))

@@ -1,9 +1,9 @@
--- `handed::loosen` is safe and ends: i counts up to 128, and each call in the loop takes any argument.
+-- `loosen` is safe and ends: i counts up to 128, and each call in the loop takes any argument.
 -- Assumes nothing.
 use borrow.Author.Needs.{needs}
 use Prim.Native.Nat.{_≤_, _-_}
-use Rattle.trials.proofs.handed.loosen.Statement.{statement}
-use Rattle.trials.proofs.handed.loosen.Tie as tie
+use Rattle.handed.proofs.loosen.Statement.{statement}
+use Rattle.handed.proofs.loosen.Tie as tie
 
 abbrev Inv-loop : tie.InvT-loop
 Inv-loop plan₀ dice₀ nodes i₀ plan dice i = i ≤ 128

@@ -1,9 +1,9 @@
--- `handed::any_numbers` is safe and ends: i counts up to the codes, and each call in the loop takes any argument.
+-- `any_numbers` is safe and ends: i counts up to the codes, and each call in the loop takes any argument.
 -- Assumes nothing.
 use borrow.Author.Needs.{needs}
 use Prim.Native.Nat.{_≤_, _-_}
-use Rattle.trials.proofs.handed.any_numbers.Statement.{statement}
-use Rattle.trials.proofs.handed.any_numbers.Tie as tie
+use Rattle.handed.proofs.any_numbers.Statement.{statement}
+use Rattle.handed.proofs.any_numbers.Tie as tie
 
 abbrev Inv-loop : tie.InvT-loop
 Inv-loop dice₀ net numbers₀ i₀ dice numbers i = i ≤ 7168

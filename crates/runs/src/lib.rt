@@ -1,5 +1,5 @@
 // Runs in random delivery orders, from the start state or another, broken off or to the end; then what was taken as a list, whole and
-// damaged; and single actions out of turn.
+// damaged; and single actions out of turn. What is proved of it is that every call is safe and ends.
 use calls::both::Action;
 use calls::both::try_act;
 use calls::both::try_list;
@@ -12,6 +12,7 @@ use compare::states::of_directions;
 use compare::states::pair;
 use compare::states::pairs_of;
 use compare::states::same_state;
+use compare::states::used_by;
 use compare::tally::Tally;
 use compare::tally::same;
 use compare::tally::same_answer;
@@ -40,25 +41,27 @@ struct Walk {
     size: usize,
 }
 
-// How many nodes or directions a row has.
-pub(crate) fn used_by(net: Network, row: usize) -> usize {
-    if of_directions(row) {
-        return net.links % 129 * 2;
-    }
-    net.nodes
+// An action's kind and first number at the end of a list; how many bytes the list then has.
+fn append_start(list: &mut [u8], size: usize, action: &Action) -> usize {
+    let kind = append(list, size, action[0]);
+    append(list, kind, action[1])
 }
 
-// An action at the end of a list, in three bytes where `padded`; how many bytes the list then has.
-fn append_action(list: &mut [u8], size: usize, action: &Action, padded: bool) -> usize {
-    let kind = append(list, size, action[0]);
-    let first = append(list, kind, action[1]);
-    if padded {
-        return append(list, first, action[2]);
+// The same with the second number.
+fn append_whole(list: &mut [u8], size: usize, action: &Action) -> usize {
+    let start = append_start(list, size, action);
+    append(list, start, action[2])
+}
+
+// An action that was taken at the end of a list, in as many bytes as it has; one that was refused is left out.
+fn append_taken(list: &mut [u8], size: usize, action: &Action, answer: u8) -> usize {
+    if answer > 0 {
+        return size;
     }
     if of_directions(of_byte(action[0])) {
-        return append(list, first, action[2]);
+        return append_whole(list, size, action);
     }
-    first
+    append_start(list, size, action)
 }
 
 // The action of a kind at a node or a direction.
@@ -78,7 +81,7 @@ fn list_action(order: &mut [u8], size: usize, pairs: &Pairs, net: Network, code:
         return size;
     }
     let action = action_of(pairs, kind, x);
-    append_action(order, size, &action, true)
+    append_whole(order, size, &action)
 }
 
 // Every action of a network; how many there are.
@@ -119,16 +122,10 @@ fn step(
     let ours = before.act(net, action);
     let theirs = second::act(plan, world, action, 0);
     same_answer(tally, b", action's answer ", ours.answer, theirs);
-    let state = ours.state;
-    if ours.answer > 0 {
-        return Walk {
-            state,
-            size: walk.size,
-        };
-    }
+    let size = append_taken(list, walk.size, action, ours.answer);
     Walk {
-        state,
-        size: append_action(list, walk.size, action, false),
+        state: ours.state,
+        size,
     }
 }
 
@@ -220,7 +217,7 @@ fn try_damaged(
 }
 
 // A kind, known or not, and two numbers, most of them of nodes.
-pub(crate) fn any_action(dice: &mut u64, nodes: usize) -> Action {
+pub fn any_action(dice: &mut u64, nodes: usize) -> Action {
     let kind = plus(below(dice, 22), 15);
     let most = if below(dice, 6) == 0 { 256 } else { nodes };
     [byte(kind), byte(below(dice, most)), byte(below(dice, most))]
@@ -245,7 +242,7 @@ fn try_singles(tally: &mut Tally, dice: &mut u64, net: Network, state: State) {
 }
 
 // So many sweeps from a state, what was taken as a list, whole and damaged, and single actions on the last state; that state.
-pub(crate) fn try_run(
+pub fn try_run(
     tally: &mut Tally,
     dice: &mut u64,
     net: Network,
@@ -273,7 +270,7 @@ fn compare_values(tally: &mut Tally, values: &[u16; 64], table: &[u16; 64]) {
 }
 
 // A complete run: its values are those of the lockstep table.
-pub(crate) fn try_whole_run(tally: &mut Tally, dice: &mut u64, net: Network) {
+pub fn try_whole_run(tally: &mut Tally, dice: &mut u64, net: Network) {
     let state = try_start(tally, net);
     let last = try_run(tally, dice, net, state, 4096);
     let values = last.values;
