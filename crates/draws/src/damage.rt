@@ -50,13 +50,6 @@ fn change_byte(bytes: &mut [u8], dice: &mut u64, size: usize) {
     put(bytes, at, byte(below(dice, 256)));
 }
 
-// A byte near the one that stands there.
-fn nudge_byte(bytes: &mut [u8], dice: &mut u64, size: usize) {
-    let at = below(dice, size);
-    let near = plus(of_byte(get(bytes, at)), below(dice, 3));
-    put(bytes, at, byte(minus(near, 1)));
-}
-
 fn insert_byte(bytes: &mut [u8], dice: &mut u64, size: usize) -> usize {
     let at = below(dice, plus(size, 1));
     let b = byte(below(dice, 5));
@@ -75,31 +68,10 @@ fn remove_record(bytes: &mut [u8], dice: &mut u64, size: usize, nodes: usize) ->
     remove_all(bytes, size, at, minus(next, at))
 }
 
-// A record stands twice.
-fn repeat_record(bytes: &mut [u8], dice: &mut u64, size: usize, nodes: usize) -> usize {
-    let r = any_record(dice, size, nodes);
-    let at = record_at(nodes, r);
-    let width = minus(record_at(nodes, plus(r, 1)), at);
-    let mut longer = size;
-    for i in 0..width {
-        let to = plus(at, i);
-        let b = get(bytes, plus(to, i));
-        let next = insert(bytes, longer, to, b);
-        longer = next;
-    }
-    longer
-}
-
 fn exchange_links(bytes: &mut [u8], dice: &mut u64, size: usize, nodes: usize) {
     let at = any_link_at(dice, size, nodes);
     let other = any_link_at(dice, size, nodes);
     exchange(bytes, at, other, 4);
-}
-
-fn exchange_nodes(bytes: &mut [u8], dice: &mut u64, nodes: usize) {
-    let at = node_at(below(dice, nodes));
-    let other = node_at(below(dice, nodes));
-    exchange(bytes, at, other, 5);
 }
 
 // A node gets another parent, which may be no node.
@@ -166,45 +138,27 @@ pub fn add_link(bytes: &mut [u8], dice: &mut u64, size: usize, nodes: usize) -> 
     insert(bytes, low, at, 3)
 }
 
-fn change_kind(bytes: &mut [u8], dice: &mut u64, size: usize, nodes: usize) {
-    let at = record_at(nodes, any_record(dice, size, nodes));
-    put(bytes, at, byte(below(dice, 6)));
-}
-
-// Damage to the bytes themselves; how many there then are.
+// Damage to the bytes themselves: one changed, some cut off, one added or one taken out; how many there then are.
 pub fn damage_bytes(bytes: &mut [u8], dice: &mut u64, size: usize) -> usize {
-    match below(dice, 5) {
+    match below(dice, 4) {
         0 => {
             change_byte(bytes, dice, size);
             size
         }
-        1 => {
-            nudge_byte(bytes, dice, size);
-            size
-        }
-        2 => below(dice, plus(size, 1)),
-        3 => insert_byte(bytes, dice, size),
+        1 => below(dice, plus(size, 1)),
+        2 => insert_byte(bytes, dice, size),
         _ => remove_byte(bytes, dice, size),
     }
 }
 
 // Damage to whole records.
 fn damage_records(bytes: &mut [u8], dice: &mut u64, size: usize, nodes: usize) -> usize {
-    match below(dice, 7) {
+    match below(dice, 4) {
         0 => remove_record(bytes, dice, size, nodes),
-        1 => repeat_record(bytes, dice, size, nodes),
-        2 => add_node(bytes, dice, size, nodes),
-        3 => add_link(bytes, dice, size, nodes),
-        4 => {
-            exchange_links(bytes, dice, size, nodes);
-            size
-        }
-        5 => {
-            exchange_nodes(bytes, dice, nodes);
-            size
-        }
+        1 => add_node(bytes, dice, size, nodes),
+        2 => add_link(bytes, dice, size, nodes),
         _ => {
-            change_kind(bytes, dice, size, nodes);
+            exchange_links(bytes, dice, size, nodes);
             size
         }
     }

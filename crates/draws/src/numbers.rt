@@ -8,20 +8,20 @@ pub fn word(x: usize) -> u16 {
     (x % 65536) as u16
 }
 
-pub fn wide(x: usize) -> u64 {
-    x as u64
-}
-
-pub fn index(x: u64) -> usize {
-    x as usize
-}
-
 pub fn of_byte(x: u8) -> usize {
     x as usize
 }
 
 pub fn of_word(x: u16) -> usize {
     x as usize
+}
+
+// Entry i of a list; 0 past its end.
+pub fn word_at(xs: &[u16], i: usize) -> usize {
+    if i < xs.len() {
+        return of_word(xs[i]);
+    }
+    0
 }
 
 // A sum that wraps, of numbers that are far from it.

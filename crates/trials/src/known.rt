@@ -1,17 +1,14 @@
 // The trials of document 01 that are not in the small proved set, each with its known end.
-use crate::both::try_list;
-use crate::both::try_plan;
-use crate::runs::try_run;
-use crate::tables::try_table;
-use crate::tally::Tally;
-use crate::tally::begin;
-use crate::tally::same;
+use calls::both::try_list;
+use calls::both::try_part;
+use calls::both::try_plan;
+use compare::tally::Tally;
+use compare::tally::begin;
+use compare::tally::same;
 use draws::damage::add_link;
 use draws::damage::add_node;
 use draws::numbers::of_byte;
 use draws::plans::AS_COUNTED;
-use draws::plans::BACKWARDS;
-use draws::plans::CHAIN;
 use draws::plans::ROOM;
 use draws::plans::SHUFFLED;
 use draws::plans::TREE;
@@ -60,7 +57,7 @@ fn known_plan(
     place: usize,
 ) -> Network {
     begin(tally);
-    let planned = crate::try_part(tally, bytes, size);
+    let planned = try_part(tally, bytes, size);
     same(tally, b", known answer ", of_byte(planned.number), number);
     same(tally, b", known place ", planned.place, place);
     planned.network
@@ -101,24 +98,6 @@ fn known_sizes(tally: &mut Tally, dice: &mut u64) {
     known_plan(tally, &bytes, longest, 4, 835);
 }
 
-// A chain of 64 nodes, with the root at one end or at the other.
-fn known_chain(tally: &mut Tally, dice: &mut u64, order: usize) {
-    let mut bytes = [0u8; ROOM];
-    let wish = Wish {
-        nodes: 64,
-        links: 63,
-        rounds: 3,
-        shape: CHAIN,
-        cut: 0,
-        order,
-    };
-    let size = make_plan(&mut bytes, dice, wish);
-    let net = known_plan(tally, &bytes, size, 0, 576);
-    let state = State::start(net).state;
-    try_table(tally, dice, net, 3, 64);
-    try_run(tally, dice, net, state, 10);
-}
-
 // An action on P's start state whose answer is known.
 fn known_action(tally: &mut Tally, net: Network, kind: u8, p: u8, number: usize) {
     begin(tally);
@@ -142,6 +121,4 @@ pub(crate) fn try_known(tally: &mut Tally, dice: &mut u64) {
     known_rounds(tally, dice, 0, 5, 0);
     known_rounds(tally, dice, 10001, 5, 0);
     known_sizes(tally, dice);
-    known_chain(tally, dice, AS_COUNTED);
-    known_chain(tally, dice, BACKWARDS);
 }

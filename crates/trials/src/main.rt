@@ -1,33 +1,31 @@
 // Trials of the bench against the second simulator. Each side gets the same bytes, networks, states and buffers, and every answer, place,
 // count, value, state and buffer that comes back is compared. What is tried is drawn from a seed, so that every run tries the same.
-mod both;
-mod handed;
 mod known;
-mod networks;
-mod runs;
-mod states;
-mod tables;
-mod tally;
+mod spoilt;
 
-use both::try_plan;
-use both::try_start;
+use calls::both::try_part;
+use calls::both::try_start;
+use calls::tables::try_tables;
+use compare::tally::Tally;
+use compare::tally::begin;
+use compare::tally::report;
+use compare::tally::same;
 use draws::damage::damage_plan;
 use draws::dice::below;
+use draws::numbers::of_byte;
 use draws::numbers::plus;
 use draws::plans::ROOM;
 use draws::plans::Wish;
 use draws::plans::make_plan;
 use network::Network;
-use records::Planned;
-use tally::Tally;
 
 const SEED: u64 = 588;
 
 const TRIALS: usize = 3000;
 
-// Most plans are small; some have any size, and one in so many the largest.
-fn any_wish(dice: &mut u64, large: usize) -> Wish {
-    let nodes = match below(dice, large) {
+// Most plans are small; some have any size, and some the largest.
+fn any_wish(dice: &mut u64) -> Wish {
+    let nodes = match below(dice, 10) {
         0 => 64,
         1 => plus(below(dice, 64), 1),
         _ => plus(below(dice, 10), 1),
@@ -47,14 +45,6 @@ fn any_wish(dice: &mut u64, large: usize) -> Wish {
     }
 }
 
-// The first so many bytes, read as a plan.
-fn try_part(tally: &mut Tally, bytes: &[u8], size: usize) -> Planned {
-    if size < bytes.len() {
-        return try_plan(tally, &bytes[0..size]);
-    }
-    try_plan(tally, bytes)
-}
-
 // Whole runs of small networks, runs broken off of any.
 fn try_runs(tally: &mut Tally, dice: &mut u64, net: Network) {
     let sweeps = below(dice, 8);
@@ -68,34 +58,36 @@ fn try_runs(tally: &mut Tally, dice: &mut u64, net: Network) {
 
 // Something of an accepted plan, by the number of the trial, so that each way of spoiling comes up.
 fn try_accepted(tally: &mut Tally, dice: &mut u64, net: Network, t: usize) {
-    match t % 8 {
+    match t % 10 {
         0 | 1 => try_runs(tally, dice, net),
-        2 => handed::try_spoilt_network(tally, dice, net, t / 8 % handed::NETWORK_WAYS),
-        3 => handed::try_spoilt_state(tally, dice, net, t / 8 % handed::STATE_WAYS),
-        4 => handed::try_any_state(tally, dice, net),
-        _ => tables::try_tables(tally, dice, net),
+        2 => spoilt::try_spoilt_network(tally, dice, net, t / 10 % handed::NETWORK_WAYS),
+        3 => spoilt::try_spoilt_state(tally, dice, net, t / 10 % handed::STATE_WAYS),
+        4 => spoilt::try_any_state(tally, dice, net),
+        _ => try_tables(tally, dice, net),
     }
 }
 
 // Any plan, or one thing wrong in one; how many bytes it has.
 fn any_plan(bytes: &mut [u8], dice: &mut u64, damaged: bool) -> usize {
+    let wish = any_wish(dice);
+    let size = make_plan(bytes, dice, wish);
     if damaged {
-        let wish = any_wish(dice, 4);
-        let size = make_plan(bytes, dice, wish);
         return damage_plan(bytes, dice, size, wish.nodes);
     }
-    let wish = any_wish(dice, 16);
-    make_plan(bytes, dice, wish)
+    size
 }
 
-// Two plans of eight are damaged.
+// Four plans of ten are damaged; the others have to be accepted.
 fn trial(tally: &mut Tally, dice: &mut u64, t: usize) {
     let mut bytes = [0u8; ROOM];
-    let size = any_plan(&mut bytes, dice, t % 8 > 5);
+    let damaged = t % 10 > 5;
+    let size = any_plan(&mut bytes, dice, damaged);
     let planned = try_part(tally, &bytes, size);
     let net = planned.network;
     if planned.number == 0 {
         try_accepted(tally, dice, net, t);
+    } else if !damaged {
+        same(tally, b", known answer ", of_byte(planned.number), 0);
     }
 }
 
@@ -104,8 +96,8 @@ fn main() {
     let mut dice = SEED;
     known::try_known(&mut tally, &mut dice);
     for t in 0..TRIALS {
-        tally::begin(&mut tally);
+        begin(&mut tally);
         trial(&mut tally, &mut dice, t);
     }
-    tally::report(&tally);
+    report(&tally);
 }
