@@ -70,7 +70,7 @@ fn close_link(plan: &mut Plan, l: usize) -> usize {
     RISING
 }
 
-// "links do not rise strictly": link l falls below the one before it.
+// "links do not rise strictly": link l, which is not the first, falls below the one before it or becomes (0, 1).
 fn lower_link(plan: &mut Plan, l: usize) -> usize {
     let before = entry(plan, LOW, minus(l, 1));
     if before > 0 {
@@ -100,17 +100,19 @@ fn fill_past(plan: &mut Plan, dice: &mut u64) -> usize {
     PAST
 }
 
-// One entry of a network changed in one of so many ways; the clause that then applies.
-pub fn spoil_network(plan: &mut Plan, dice: &mut u64, way: usize) -> usize {
+// One entry of a network changed in one of so many ways; the clause that it breaks. A link is changed only where there are two.
+pub fn spoil_network(plan: &mut Plan, dice: &mut u64, wanted: usize) -> usize {
     let nodes = entry(plan, HEAD, NODES);
+    let links = entry(plan, HEAD, LINKS);
+    let way = if links < 2 { wanted % 6 } else { wanted };
     let p = below(dice, nodes);
-    let l = below(dice, entry(plan, HEAD, LINKS));
+    let l = below(dice, links);
     let no_node = at_least(dice, nodes, 256);
     match way {
         NODES..=ROUNDS => spoil_head(plan, dice, way),
         NEIGHBOURS..=PREFERRED => turn_mark(plan, dice, way, p),
         6 => close_link(plan, l),
-        7 => lower_link(plan, l),
+        7 => lower_link(plan, at_least(dice, 1, links)),
         8 => {
             set_entry(plan, FLAG, l, plus(below(dice, 254), 2));
             ENDS

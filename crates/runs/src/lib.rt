@@ -123,10 +123,8 @@ fn step(
     let theirs = second::act(plan, world, action, 0);
     same_answer(tally, b", action's answer ", ours.answer, theirs);
     let size = append_taken(list, walk.size, action, ours.answer);
-    Walk {
-        state: ours.state,
-        size,
-    }
+    let state = ours.state;
+    Walk { state, size }
 }
 
 // Tries every action in its order.
