@@ -6,7 +6,6 @@ use Rattle.network.proofs.Tables.{agrees-with-given}
 use borrow.Author.Needs.{needs}
 use Rattle.network.proofs.sets_agree.Statement.{statement}
 use Rattle.network.proofs.sets_agree.Tie as tie
-use Rattle.network.proofs.sets_agree.Reads as reads
 
 returns : tie.Need-returns
 returns c = both-on _ _ _ (sym (agrees-with-given _ _ _ (c .before .before .before .before .before .before .before .before .link-sets .ensures .0)) ∙ sym (c .before .before .before .before .before .before .agree .ensures) ∙ c .before .before .before .before .before .if1 .taken) (both-on _ _ _ (sym (agrees-with-given _ _ _ (c .before .before .before .before .before .before .before .before .before .before .before .child-sets .ensures)) ∙ sym (c .before .before .before .agree2 .ensures) ∙ c .before .before .if2 .taken) (c .agree3 .ensures ∙ agrees-with-given _ _ _ (c .before .before .before .before .before .before .before .before .link-sets .ensures .1)))
