@@ -7,8 +7,10 @@ mod test;
 mod valid;
 
 use crate::entry::by_kind;
-use crate::entry::by_list;
 use crate::entry::by_record;
+use crate::lanes::lanes_of;
+use crate::runner::go_through;
+use crate::valid::in_range;
 use actions::Kind;
 use network::Network;
 ghost use mathlib.Core.Path.{_≡_};
@@ -261,7 +263,8 @@ impl State {
         }
     }
 
-    // A list of actions from bytes: 17 once, then one record after the other up to the first refusal.
+    // A list of actions from bytes: 17 once, then one record after the other up to the first refusal. The arrays are lent here, so that a turn
+    // reaches them where they stand.
     pub fn run(self, net: Network, bytes: &[u8]) -> Ran
         ensures { λ r. ⌜ r ≡ listOf net self (now (bytes .entry)) ⌝ }
     {
@@ -271,28 +274,51 @@ impl State {
         let mut loads = self.loads;
         let mut slots = self.slots;
         let mut values = self.values;
-        let ended = by_list(
-            net,
-            &mut counts,
-            &mut lens,
-            &mut sorts,
-            &mut loads,
-            &mut slots,
-            &mut values,
-            bytes,
-        );
+        if in_range(net, &counts, &lens, &sorts, &loads, &slots, &values) {
+            let bodies = actions::bodies();
+            let parents = net.parents;
+            let lowers = net.lowers;
+            let uppers = net.uppers;
+            let neighbours = net.neighbours;
+            let children = net.children;
+            let preferred = net.preferred;
+            let lanes = lanes_of(&lowers, &uppers, net.links);
+            let ended = go_through(
+                &bodies,
+                bytes,
+                net.nodes,
+                net.rounds,
+                &parents,
+                &lanes,
+                &neighbours,
+                &children,
+                &preferred,
+                &mut counts,
+                &mut lens,
+                &mut sorts,
+                &mut loads,
+                &mut slots,
+                &mut values,
+            );
+            return Ran {
+                answer: ended.answer,
+                place: ended.place,
+                taken: ended.taken,
+                state: State {
+                    counts,
+                    lens,
+                    sorts,
+                    loads,
+                    slots,
+                    values,
+                },
+            };
+        }
         Ran {
-            answer: ended.answer,
-            place: ended.place,
-            taken: ended.taken,
-            state: State {
-                counts,
-                lens,
-                sorts,
-                loads,
-                slots,
-                values,
-            },
+            answer: 17,
+            place: 0,
+            taken: 0,
+            state: self,
         }
     }
 }
