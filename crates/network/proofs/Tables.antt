@@ -16,8 +16,7 @@ use Rattle.laws.proofs.Below.{list-is, list-at, length-list, fold-start, fold-m
 use Rattle.nodeset.specs.Marks.{inserted}
 use Rattle.nodeset.proofs.Marks.{above-63-adds-nothing}
 use Rattle.network.specs.Valid.{agrees}
-use Rattle.network.specs.declared.Network.{Network}
-use Rattle.network.specs.Sets.{withSets, towards, linkGives, linkSet, childSet, added, linked, adopted}
+use Rattle.network.specs.Sets.{towards, linkGives, linkSet, childSet, added, linked, adopted}
 
 -- ---- one more member
 
@@ -117,7 +116,6 @@ unfolding agrees
 agrees-with-table kept f =
     all-same (λ p. eqb (getD kept p 0) (getD (listBelow f 64) p 0)) (λ p. eqb (getD kept p 0) (f p)) 64 (λ p h. ap (eqb (getD kept p 0)) (list-at f 64 p 0 h))
 
--- .. and so for a table of the network that the lists give
-pub agrees-with-given : (kept : List ℕ) (net given : Network) (table : Network → List ℕ) (f : ℕ → ℕ) → given ≡ withSets net → table (withSets net) ≡ listBelow f 64 → agrees kept (λ p. getD (table given) p 0) ≡ agrees kept f
-agrees-with-given kept net given table f e t =
-    ap (λ l. agrees kept (λ p. getD l p 0)) (ap table e ∙ t) ∙ agrees-with-table kept f
+-- .. and so for a table that is filled from the lists
+pub agrees-with-given : (kept given : List ℕ) (f : ℕ → ℕ) → given ≡ listBelow f 64 → agrees kept (λ p. getD given p 0) ≡ agrees kept f
+agrees-with-given kept given f e = ap (λ l. agrees kept (λ p. getD l p 0)) e ∙ agrees-with-table kept f

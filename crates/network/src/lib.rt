@@ -6,7 +6,7 @@ ghost use Rattle.laws.specs.Choice.{both};
 ghost use Rattle.laws.specs.Below.{allBelow, listBelow};
 ghost use lib.Dec.{eqb};
 ghost use lib.ListN.{getD, replicate};
-ghost use Rattle.network.specs.Sets.{added, linked, adopted, linkSet, childSet, neighboursOf, childrenOf, preferredOf, withSets};
+ghost use Rattle.network.specs.Sets.{added, linked, adopted, linkSet, childSet, withSets};
 ghost use Rattle.network.specs.Zeros.{zeroNetwork};
 ghost use Rattle.network.specs.Valid.{withinLimits, nodeFits, rises, linkFits, standsAfter, linkStands, agrees, validNetwork};
 use nodeset::NodeSet;
@@ -252,6 +252,41 @@ fn agree(kept: &[u64; 64], given: &[u64; 64]) -> bool
     faults == 0
 }
 
+// The sets kept are those that the lists give.
+fn sets_agree(
+    parents: &[u8; 64],
+    lowers: &[u8; 128],
+    uppers: &[u8; 128],
+    flags: &[u8; 128],
+    nodes: usize,
+    links: usize,
+    neighbours: &[u64; 64],
+    children: &[u64; 64],
+    preferred: &[u64; 64],
+) -> bool
+    requires { ⌜ (nodes ≤ 64) × (links ≤ 128) ⌝ }
+    ensures { λ r. ⌜ r ≡ both (agrees (now (neighbours .entry)) (linkSet (now (lowers .entry)) (now (uppers .entry)) (now (flags .entry)) 0 links)) (both (agrees (now (children .entry)) (childSet (now (parents .entry)) nodes)) (agrees (now (preferred .entry)) (linkSet (now (lowers .entry)) (now (uppers .entry)) (now (flags .entry)) 1 links))) ⌝ }
+{
+    let given_children = child_sets(parents, nodes);
+    let mut given_neighbours = [0u64; 64];
+    let mut given_preferred = [0u64; 64];
+    link_sets(
+        lowers,
+        uppers,
+        flags,
+        links,
+        &mut given_neighbours,
+        &mut given_preferred,
+    );
+    if agree(neighbours, &given_neighbours) {
+        if agree(children, &given_children) {
+            return agree(preferred, &given_preferred);
+        }
+        return false;
+    }
+    false
+}
+
 impl Network {
     // The network with the sets that its lists give.
     pub fn with_sets(self) -> Network
@@ -290,26 +325,6 @@ impl Network {
         }
     }
 
-    // The sets kept are those that the lists give.
-    fn sets_agree(self) -> bool
-        ensures { λ r. ⌜ r ≡ both (agrees (self .neighbours) (neighboursOf self)) (both (agrees (self .children) (childrenOf self)) (agrees (self .preferred) (preferredOf self))) ⌝ }
-    {
-        let neighbours = self.neighbours;
-        let children = self.children;
-        let preferred = self.preferred;
-        let given = self.with_sets();
-        let given_neighbours = given.neighbours;
-        let given_children = given.children;
-        let given_preferred = given.preferred;
-        if agree(&neighbours, &given_neighbours) {
-            if agree(&children, &given_children) {
-                return agree(&preferred, &given_preferred);
-            }
-            return false;
-        }
-        false
-    }
-
     // Within the ranges of answer 17.
     pub fn valid(self) -> bool
         ensures { λ r. ⌜ r ≡ validNetwork self ⌝ }
@@ -321,12 +336,25 @@ impl Network {
         let lowers = self.lowers;
         let uppers = self.uppers;
         let flags = self.flags;
+        let neighbours = self.neighbours;
+        let children = self.children;
+        let preferred = self.preferred;
         if within_limits(nodes, links, self.rounds) {
             let n = nodes as u8;
             let m = links as u8;
             if nodes_fit(n, &parents, &starts) {
                 if links_stand(n, m, &lowers, &uppers, &flags) {
-                    return self.sets_agree();
+                    return sets_agree(
+                        &parents,
+                        &lowers,
+                        &uppers,
+                        &flags,
+                        nodes,
+                        links,
+                        &neighbours,
+                        &children,
+                        &preferred,
+                    );
                 }
                 return false;
             }

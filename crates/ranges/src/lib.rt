@@ -1,10 +1,10 @@
 // The state half of answer 17, over the arrays of any state. Each is gone through once from end to end, with what is wrong of each entry gathered
 // into one number, so that the loops go many entries at a time.
 ghost use mathlib.Core.Path.{_≡_};
-ghost use Prim.Native.Nat.{_+_, _*_, _<_};
+ghost use Prim.Native.Nat.{_+_, _*_, _/_, _%_, _<_, min};
 ghost use lib.Dec.{leb, eqb};
 ghost use lib.ListN.{length, getD};
-ghost use Rattle.laws.specs.Choice.{ifLt, ifEq, both};
+ghost use Rattle.laws.specs.Choice.{ifLt, ifEq};
 ghost use Rattle.laws.specs.Below.{allBelow, listBelow};
 ghost use Rattle.actions.specs.Kinds.{kinds};
 ghost use Rattle.ranges.specs.Fits.{countsFit, lengthsFit, sortFits, sortsFit, loadFits, loadsFit, restFits, stateFits};
@@ -21,24 +21,22 @@ fn excess(n: u16, most: u16) -> u16
     0
 }
 
-// The most that place x of a row may hold, where so many are in use.
-fn limit(x: usize, used: usize, most: u16) -> u16
-    ensures { λ r. ⌜ r ≡ ifLt x used most 0 ⌝ }
+// How many places of a row are in use, where so many are claimed.
+fn in_row(used: usize) -> usize
+    ensures { λ r. ⌜ r ≡ min used 256 ⌝ }
 {
-    if x < used {
-        return most;
-    }
-    0
+    if used < 256 { used } else { 256 }
 }
 
-// The most that each place of a row may hold.
+// The most that each place of a row may hold: only the places in use are written.
 fn limits(used: usize, most: u16) -> [u16; 256]
     ensures { λ r. ⌜ r ≡ listBelow (λ x. ifLt x used most 0) 256 ⌝ }
 {
     let mut limits = [0u16; 256];
+    let stop = in_row(used);
     let mut x = 0;
-    while x < 256 {
-        limits[x] = limit(x, used, most);
+    while x < stop {
+        limits[x] = most;
         x += 1;
     }
     limits
@@ -125,11 +123,36 @@ fn lengths_fit(links: u8, lens: &[u8; 256]) -> bool
     each_fits(lens, &of_lanes)
 }
 
-// What is wrong of the sort at place j of a queue of that length.
-fn sort_fault(len: u8, j: u8, sort: u8) -> u8
-    ensures { λ r. ⌜ eqb r 0 ≡ sortFits len j sort ⌝ }
+// 1 where place j of a queue of that length holds a message.
+fn held(len: u8, j: u8) -> u8
+    ensures { λ r. ⌜ r ≡ ifLt j len 1 0 ⌝ }
 {
     if j < len {
+        return 1;
+    }
+    0
+}
+
+// For each place of each queue whether it holds a message, in the order of the sorts, so that these are gone through many at a time.
+fn places(lens: &[u8; 256]) -> [u8; 512]
+    ensures { λ r. ⌜ r ≡ listBelow (λ e. ifLt (e % 2) (getD (now (lens .entry)) (e / 2) 0) 1 0) 512 ⌝ }
+{
+    let mut places = [0u8; 512];
+    let mut d = 0;
+    while d < 256 {
+        let first = d * 2;
+        places[first] = held(lens[d], 0);
+        places[first + 1] = held(lens[d], 1);
+        d += 1;
+    }
+    places
+}
+
+// What is wrong of a sort at a place that holds a message, and at one that does not.
+fn sort_fault(held: u8, sort: u8) -> u8
+    ensures { λ r. ⌜ eqb r 0 ≡ sortFits held 0 sort ⌝ }
+{
+    if 0 < held {
         if sort == PACKET {
             return 0;
         }
@@ -141,21 +164,15 @@ fn sort_fault(len: u8, j: u8, sort: u8) -> u8
     sort
 }
 
-fn queue_fault(len: u8, first: u8, second: u8) -> u8
-    ensures { λ r. ⌜ eqb r 0 ≡ both (sortFits len 0 first) (sortFits len 1 second) ⌝ }
-{
-    sort_fault(len, 0, first) | sort_fault(len, 1, second)
-}
-
 fn sorts_fit(lens: &[u8; 256], sorts: &[u8; 512]) -> bool
     ensures { λ r. ⌜ r ≡ sortsFit (now (lens .entry)) (now (sorts .entry)) ⌝ }
 {
+    let places = places(lens);
     let mut faults = 0u8;
-    let mut d = 0;
-    while d < 256 {
-        let first = d * 2;
-        faults = faults | queue_fault(lens[d], sorts[first], sorts[first + 1]);
-        d += 1;
+    let mut e = 0;
+    while e < 512 {
+        faults = faults | sort_fault(places[e], sorts[e]);
+        e += 1;
     }
     faults == 0
 }

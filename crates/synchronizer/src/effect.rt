@@ -107,14 +107,14 @@ pub(crate) fn effect(
 }
 
 // An action on lent arrays: its answer, and where it is 0 the state after it.
-pub(crate) fn take(
+pub(crate) fn take<'a>(
     nodes: usize,
     rounds: u16,
-    parents: &[u8; 64],
+    parents: &'a [u8; 64],
     lanes: &[u8; 4096],
-    neighbours: &[u64; 64],
-    children: &[u64; 64],
-    preferred: &[u64; 64],
+    neighbours: &'a [u64; 64],
+    children: &'a [u64; 64],
+    preferred: &'a [u64; 64],
     counts: &mut [u16; 5120],
     lens: &mut [u8; 256],
     sorts: &mut [u8; 512],

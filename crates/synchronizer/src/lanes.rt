@@ -19,7 +19,7 @@ fn join(lanes: &mut [u8; 4096], a: u8, b: u8, l: u8)
     lanes[high * 64 + low] = l * 2 + 1;
 }
 
-pub(crate) fn lanes_of(lowers: &[u8; 128], uppers: &[u8; 128], links: usize) -> [u8; 4096]
+pub(crate) fn lanes_of<'a>(lowers: &'a [u8; 128], uppers: &'a [u8; 128], links: usize) -> [u8; 4096]
     requires { ⌜ (links ≤ 128) × Below64 (now lowers) links × Below64 (now uppers) links ⌝ }
     ensures { λ r. ⌜ r ≡ lanesOf (now (lowers .entry)) (now (uppers .entry)) links ⌝ }
 {

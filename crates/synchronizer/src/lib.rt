@@ -1,14 +1,15 @@
 // The synchronizer: a state by value, its start, the state half of answer 17, the twenty actions, one action from bytes and a list of them.
 mod effect;
+mod entry;
 mod lanes;
 mod runner;
 mod test;
 mod valid;
 
-use crate::effect::take;
+use crate::entry::by_kind;
+use crate::entry::by_record;
 use crate::lanes::lanes_of;
 use crate::runner::go_through;
-use crate::runner::turn;
 use crate::valid::in_range;
 use actions::Kind;
 use network::Network;
@@ -30,10 +31,11 @@ pub struct State {
     pub values: [u16; 64],
 }
 
-// An action's answer, and the state that follows it.
+// An action's answer, and the state that follows it. The state stands first: no byte is left over between the two, and a state that is handed
+// on is copied as one.
 pub struct Done {
-    pub answer: u8,
     pub state: State,
+    pub answer: u8,
 }
 
 // One action from bytes: with answer 0 the place is the bytes read.
@@ -52,7 +54,7 @@ pub struct Ran {
 }
 
 impl State {
-    // An action by its kind: 17 first, then the answer and the state after on arrays that are lent.
+    // An action by its kind: the answer and the state after on arrays that are lent.
     fn action(self, net: Network, kind: Kind, p: u8, q: u8) -> Done
         ensures { λ r. ⌜ r ≡ doneOf net self kind p q ⌝ }
     {
@@ -62,47 +64,28 @@ impl State {
         let mut loads = self.loads;
         let mut slots = self.slots;
         let mut values = self.values;
-        if in_range(net, &counts, &lens, &sorts, &loads, &slots, &values) {
-            let parents = net.parents;
-            let lowers = net.lowers;
-            let uppers = net.uppers;
-            let neighbours = net.neighbours;
-            let children = net.children;
-            let preferred = net.preferred;
-            let lanes = lanes_of(&lowers, &uppers, net.links);
-            let answer = take(
-                net.nodes,
-                net.rounds,
-                &parents,
-                &lanes,
-                &neighbours,
-                &children,
-                &preferred,
-                &mut counts,
-                &mut lens,
-                &mut sorts,
-                &mut loads,
-                &mut slots,
-                &mut values,
-                kind,
-                p,
-                q,
-            );
-            return Done {
-                answer,
-                state: State {
-                    counts,
-                    lens,
-                    sorts,
-                    loads,
-                    slots,
-                    values,
-                },
-            };
-        }
+        let answer = by_kind(
+            net,
+            &mut counts,
+            &mut lens,
+            &mut sorts,
+            &mut loads,
+            &mut slots,
+            &mut values,
+            kind,
+            p,
+            q,
+        );
         Done {
-            answer: 17,
-            state: self,
+            answer,
+            state: State {
+                counts,
+                lens,
+                sorts,
+                loads,
+                slots,
+                values,
+            },
         }
     }
 
@@ -256,54 +239,32 @@ impl State {
         let mut loads = self.loads;
         let mut slots = self.slots;
         let mut values = self.values;
-        if in_range(net, &counts, &lens, &sorts, &loads, &slots, &values) {
-            let bodies = actions::bodies();
-            let parents = net.parents;
-            let lowers = net.lowers;
-            let uppers = net.uppers;
-            let neighbours = net.neighbours;
-            let children = net.children;
-            let preferred = net.preferred;
-            let lanes = lanes_of(&lowers, &uppers, net.links);
-            let did = turn(
-                &bodies,
-                bytes,
-                0,
-                net.nodes,
-                net.rounds,
-                &parents,
-                &lanes,
-                &neighbours,
-                &children,
-                &preferred,
-                &mut counts,
-                &mut lens,
-                &mut sorts,
-                &mut loads,
-                &mut slots,
-                &mut values,
-            );
-            return Acted {
-                answer: did.answer,
-                place: did.used,
-                state: State {
-                    counts,
-                    lens,
-                    sorts,
-                    loads,
-                    slots,
-                    values,
-                },
-            };
-        }
+        let did = by_record(
+            net,
+            &mut counts,
+            &mut lens,
+            &mut sorts,
+            &mut loads,
+            &mut slots,
+            &mut values,
+            bytes,
+        );
         Acted {
-            answer: 17,
-            place: 0,
-            state: self,
+            answer: did.answer,
+            place: did.used,
+            state: State {
+                counts,
+                lens,
+                sorts,
+                loads,
+                slots,
+                values,
+            },
         }
     }
 
-    // A list of actions from bytes: 17 once, then one record after the other up to the first refusal.
+    // A list of actions from bytes: 17 once, then one record after the other up to the first refusal. The arrays are lent here, so that a turn
+    // reaches them where they stand.
     pub fn run(self, net: Network, bytes: &[u8]) -> Ran
         ensures { λ r. ⌜ r ≡ listOf net self (now (bytes .entry)) ⌝ }
     {

@@ -16,17 +16,17 @@ pub struct Did {
     pub used: usize,
 }
 
-pub(crate) fn turn(
+pub(crate) fn turn<'a>(
     bodies: &[u8; 20],
     bytes: &[u8],
     at: usize,
     nodes: usize,
     rounds: u16,
-    parents: &[u8; 64],
+    parents: &'a [u8; 64],
     lanes: &[u8; 4096],
-    neighbours: &[u64; 64],
-    children: &[u64; 64],
-    preferred: &[u64; 64],
+    neighbours: &'a [u64; 64],
+    children: &'a [u64; 64],
+    preferred: &'a [u64; 64],
     counts: &mut [u16; 5120],
     lens: &mut [u8; 256],
     sorts: &mut [u8; 512],
@@ -84,16 +84,16 @@ pub struct Ended {
     pub taken: usize,
 }
 
-pub(crate) fn go_through(
+pub(crate) fn go_through<'a>(
     bodies: &[u8; 20],
     bytes: &[u8],
     nodes: usize,
     rounds: u16,
-    parents: &[u8; 64],
+    parents: &'a [u8; 64],
     lanes: &[u8; 4096],
-    neighbours: &[u64; 64],
-    children: &[u64; 64],
-    preferred: &[u64; 64],
+    neighbours: &'a [u64; 64],
+    children: &'a [u64; 64],
+    preferred: &'a [u64; 64],
     counts: &mut [u16; 5120],
     lens: &mut [u8; 256],
     sorts: &mut [u8; 512],

@@ -1,4 +1,4 @@
--- `sort_fault`: the tests are the definition's; past the length the sort itself is the fault.
+-- `sort_fault`: the tests are the definition's; where no message is held the sort itself is the fault.
 -- Assumes nothing.
 use borrow.Author.Needs.{needs}
 use mathlib.Core.Path.{sym}
