@@ -22,6 +22,16 @@ pub fn append(bytes: &mut [u8], size: usize, b: u8) -> usize {
     size
 }
 
+// All of these more, one after the other.
+pub fn append_all(bytes: &mut [u8], size: usize, more: &[u8]) -> usize {
+    let mut at = size;
+    for i in 0..more.len() {
+        let next = append(bytes, at, more[i]);
+        at = next;
+    }
+    at
+}
+
 // The byte before a place goes to the place.
 fn move_up(bytes: &mut [u8], at: usize) {
     if 0 < at {

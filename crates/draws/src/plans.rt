@@ -1,6 +1,7 @@
 // Plans that are accepted: a tree of wires over shuffled node numbers, cut into clusters, then more wires, and one preferred link for each
 // two joined clusters.
 use crate::bytes::append;
+use crate::bytes::append_all;
 use crate::dice::below;
 use crate::dice::once_in;
 use crate::numbers::byte;
@@ -220,11 +221,6 @@ fn prefer_all(wires: &mut Wires, parents: &Names, dice: &mut u64) {
     }
 }
 
-fn append_word(bytes: &mut [u8], size: usize, x: usize) -> usize {
-    let high = append(bytes, size, byte(x / 256));
-    append(bytes, high, byte(x))
-}
-
 // A start value: any, the least or the most.
 fn start_value(dice: &mut u64) -> usize {
     match below(dice, 8) {
@@ -235,10 +231,15 @@ fn start_value(dice: &mut u64) -> usize {
 }
 
 fn append_node(bytes: &mut [u8], size: usize, parents: &Names, dice: &mut u64, p: usize) -> usize {
-    let kind = append(bytes, size, 2);
-    let number = append(bytes, kind, byte(p));
-    let parent = append(bytes, number, byte(name(parents, p)));
-    append_word(bytes, parent, start_value(dice))
+    let value = start_value(dice);
+    let node = [
+        2,
+        byte(p),
+        byte(name(parents, p)),
+        byte(value / 256),
+        byte(value),
+    ];
+    append_all(bytes, size, &node)
 }
 
 fn append_nodes(
@@ -261,13 +262,9 @@ fn append_link(bytes: &mut [u8], size: usize, wires: &Wires, pair: usize) -> usi
     if sort == 0 {
         return size;
     }
-    let kind = append(bytes, size, 3);
-    let low = append(bytes, kind, byte(pair / MOST_NODES));
-    let high = append(bytes, low, byte(pair % MOST_NODES));
-    if sort == PREFERRED {
-        return append(bytes, high, 1);
-    }
-    append(bytes, high, 0)
+    let flag = if sort == PREFERRED { 1 } else { 0 };
+    let link = [3, byte(pair / MOST_NODES), byte(pair % MOST_NODES), flag];
+    append_all(bytes, size, &link)
 }
 
 fn append_links(bytes: &mut [u8], size: usize, wires: &Wires) -> usize {
@@ -286,9 +283,10 @@ fn write_plan(
     dice: &mut u64,
     wish: Wish,
 ) -> usize {
-    let kind = append(bytes, 0, 1);
-    let rounds = append_word(bytes, kind, wish.rounds);
-    let nodes = append_nodes(bytes, rounds, parents, dice, wish.nodes);
+    let rounds = wish.rounds;
+    let first = [1, byte(rounds / 256), byte(rounds)];
+    let begun = append_all(bytes, 0, &first);
+    let nodes = append_nodes(bytes, begun, parents, dice, wish.nodes);
     let links = append_links(bytes, nodes, wires);
     append(bytes, links, 0)
 }
