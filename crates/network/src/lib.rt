@@ -4,7 +4,7 @@ ghost use mathlib.Core.Path.{_≡_};
 ghost use Prim.Native.Nat.{_≤_, _<_, min};
 ghost use Rattle.laws.specs.Choice.{both};
 ghost use Rattle.laws.specs.Below.{allBelow, listBelow};
-ghost use lib.Dec.{eqb};
+ghost use lib.Dec.{ltb, eqb};
 ghost use lib.ListN.{getD, replicate};
 ghost use Rattle.network.specs.Sets.{added, linked, adopted, linkSet, childSet, withSets};
 ghost use Rattle.network.specs.Zeros.{zeroNetwork};
@@ -146,28 +146,46 @@ fn within_limits(nodes: usize, links: usize, rounds: u16) -> bool
     rounds <= 10000
 }
 
-// What is wrong of a node's entries: 0 where they fit. The loops over the lists gather it into one number and never stop, so that they go
-// many entries at a time.
-fn node_fault(nodes: u8, p: u8, parent: u8, start: u16) -> u16
-    ensures { λ r. ⌜ eqb r 0 ≡ nodeFits nodes p parent start ⌝ }
+// What is wrong of the parent of a node in use: 0 where it fits. The loops over the lists gather it into one number and never stop, so that they
+// go many entries at a time; and the entries in use and those past them are gone through apart, so that no entry is asked on which side of the
+// count it is.
+fn parent_fault(nodes: u8, parent: u8) -> u16
+    ensures { λ r. ⌜ eqb r 0 ≡ ltb parent nodes ⌝ }
 {
-    if p < nodes {
-        if parent < nodes {
-            return 0;
-        }
-        return 1;
+    if parent < nodes {
+        return 0;
     }
-    (parent as u16) | start
+    1
+}
+
+fn parent_faults(nodes: u8, parents: &[u8; 64]) -> u16
+    requires { ⌜ nodes ≤ 64 ⌝ }
+    ensures { λ r. ⌜ eqb r 0 ≡ allBelow (λ p. ltb (getD (now (parents .entry)) p 0) nodes) nodes ⌝ }
+{
+    let used = nodes as usize;
+    let mut faults = 0u16;
+    let mut p = 0;
+    while p < used {
+        faults = faults | parent_fault(nodes, parents[p]);
+        p += 1;
+    }
+    faults
+}
+
+fn wide(x: u8) -> u16
+    ensures { λ r. ⌜ r ≡ x ⌝ }
+{
+    x as u16
 }
 
 fn nodes_fit(nodes: u8, parents: &[u8; 64], starts: &[u16; 64]) -> bool
+    requires { ⌜ nodes ≤ 64 ⌝ }
     ensures { λ r. ⌜ r ≡ allBelow (λ p. nodeFits nodes p (getD (now (parents .entry)) p 0) (getD (now (starts .entry)) p 0)) 64 ⌝ }
 {
-    let mut faults = 0u16;
-    let mut p = 0u8;
+    let mut faults = parent_faults(nodes, parents);
+    let mut p = nodes as usize;
     while p < 64 {
-        let at = p as usize;
-        faults = faults | node_fault(nodes, p, parents[at], starts[at]);
+        faults = faults | (wide(parents[p]) | starts[p]);
         p += 1;
     }
     faults == 0
@@ -237,7 +255,7 @@ fn link_faults(
     faults
 }
 
-// The links in use stand, and past them nothing does: two loops, neither of which asks at each link on which side of the count it is.
+// The links in use stand, and past them nothing does.
 fn links_stand(
     nodes: u8,
     links: usize,
