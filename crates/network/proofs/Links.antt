@@ -1,17 +1,19 @@
 -- The list of links in one pass, each link held against the one before it. Before the first stands (0, 0): every link that fits rises above it, so
 -- that the first needs no rule of its own.
 -- Assumes nothing.
-use Prim.Native.Nat.{ℕ, suc, _-_}
+use Prim.Native.Nat.{ℕ, suc, _-_, _<_, _≤_}
 use native.Mathlib.Omega.{arith}
 use mathlib.Core.Path.{_≡_, refl, sym, _∙_, ap, ap₂}
 use mathlib.Core.Bool.{Bool, true}
 use mathlib.Core.List.{List}
+use lib.Bits.{bitOr}
 use lib.Dec.{eqb}
 use lib.ListN.{getD}
 use borrow.Author.Tests.{ltb-true}
-use Rattle.laws.specs.Choice.{ifLt, both}
-use Rattle.laws.proofs.Choice.{ifEq-yes, ifEq-no, both-yes, both-left, both-right, same-test}
-use Rattle.network.specs.Valid.{rises, linkFits, linkRises, linkStands, standsAfter}
+use Rattle.laws.specs.Choice.{both}
+use Rattle.laws.proofs.Choice.{ifLt-yes, ifLt-no, ifEq-yes, ifEq-no, both-yes, both-left, both-right, same-test}
+use Rattle.laws.proofs.Faults.{faults-or}
+use Rattle.network.specs.Valid.{rises, linkFits, linkRises, linkStands}
 use Rattle.network.proofs.Valid.{rises-of}
 
 -- the link (a, b) stands before place l
@@ -48,6 +50,13 @@ module _ (nodes links : ℕ) (lowers uppers flags : List ℕ) (l a b : ℕ) wher
       let back : k ≡ l - 1 = omega arith in
       ap (both fits) (ap₂ (λ p q. rises p q c d) (x ∙ ap (λ j. getD lowers j 0) back) (y ∙ ap (λ j. getD uppers j 0) back) ∙ sym (ifEq-no l 0 true _ (λ z. omega arith)))
 
-  pub stands-after : Before lowers uppers l a b → standsAfter nodes links l a b c d (getD flags l 0) ≡ linkStands nodes links lowers uppers flags l
-  unfolding standsAfter linkStands
-  stands-after before = ap (λ t. ifLt l links t (both (eqb c 0) (both (eqb d 0) (eqb (getD flags l 0) 0)))) (rises-last before)
+  -- a link in use stands where it fits and rises above the one before it
+  pub stands-after : Before lowers uppers l a b → l < links → both fits (rises a b c d) ≡ linkStands nodes links lowers uppers flags l
+  unfolding linkStands
+  stands-after before h = rises-last before ∙ sym (ifLt-yes l links _ _ h)
+
+-- and past those in use nothing stands
+pub stands-past : (nodes links : ℕ) (lowers uppers flags : List ℕ) (l : ℕ) → links ≤ l → eqb (bitOr (getD lowers l 0) (bitOr (getD uppers l 0) (getD flags l 0))) 0 ≡ linkStands nodes links lowers uppers flags l
+unfolding linkStands
+stands-past nodes links lowers uppers flags l h =
+    faults-or (getD lowers l 0) (bitOr (getD uppers l 0) (getD flags l 0)) _ _ refl (faults-or (getD uppers l 0) (getD flags l 0) _ _ refl refl) ∙ sym (ifLt-no l links _ _ h)

@@ -40,11 +40,6 @@ linkStands nodes links lowers uppers flags l =
     (both (linkFits nodes (getD lowers l 0) (getD uppers l 0) (getD flags l 0)) (linkRises lowers uppers l))
     (both (eqb (getD lowers l 0) 0) (both (eqb (getD uppers l 0) 0) (eqb (getD flags l 0) 0)))
 
--- the same of a link (c, d) after the link (a, b)
-unfoldable pub standsAfter : ℕ → ℕ → ℕ → ℕ → ℕ → ℕ → ℕ → ℕ → Bool
-standsAfter nodes links l a b c d flag =
-    ifLt l links (both (linkFits nodes c d flag) (rises a b c d)) (both (eqb c 0) (both (eqb d 0) (eqb flag 0)))
-
 -- the sets kept for the 64 places are what the lists give
 unfoldable pub agrees : List ℕ → (ℕ → ℕ) → Bool
 agrees kept given = allBelow (λ p. eqb (getD kept p 0) (given p)) 64

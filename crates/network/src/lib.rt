@@ -4,11 +4,11 @@ ghost use mathlib.Core.Path.{_≡_};
 ghost use Prim.Native.Nat.{_≤_, _<_, min};
 ghost use Rattle.laws.specs.Choice.{both};
 ghost use Rattle.laws.specs.Below.{allBelow, listBelow};
-ghost use lib.Dec.{eqb};
+ghost use lib.Dec.{ltb, eqb};
 ghost use lib.ListN.{getD, replicate};
 ghost use Rattle.network.specs.Sets.{added, linked, adopted, linkSet, childSet, withSets};
 ghost use Rattle.network.specs.Zeros.{zeroNetwork};
-ghost use Rattle.network.specs.Valid.{withinLimits, nodeFits, rises, linkFits, standsAfter, linkStands, agrees, validNetwork};
+ghost use Rattle.network.specs.Valid.{withinLimits, nodeFits, rises, linkFits, linkStands, agrees, validNetwork};
 use nodeset::NodeSet;
 
 pub struct Network {
@@ -146,28 +146,46 @@ fn within_limits(nodes: usize, links: usize, rounds: u16) -> bool
     rounds <= 10000
 }
 
-// What is wrong of a node's entries: 0 where they fit. The loops over the lists gather it into one number and never stop, so that they go
-// many entries at a time.
-fn node_fault(nodes: u8, p: u8, parent: u8, start: u16) -> u16
-    ensures { λ r. ⌜ eqb r 0 ≡ nodeFits nodes p parent start ⌝ }
+// What is wrong of the parent of a node in use: 0 where it fits. The loops over the lists gather it into one number and never stop, so that they
+// go many entries at a time; and the entries in use and those past them are gone through apart, so that no entry is asked on which side of the
+// count it is.
+fn parent_fault(nodes: u8, parent: u8) -> u16
+    ensures { λ r. ⌜ eqb r 0 ≡ ltb parent nodes ⌝ }
 {
-    if p < nodes {
-        if parent < nodes {
-            return 0;
-        }
-        return 1;
+    if parent < nodes {
+        return 0;
     }
-    (parent as u16) | start
+    1
+}
+
+fn parent_faults(nodes: u8, parents: &[u8; 64]) -> u16
+    requires { ⌜ nodes ≤ 64 ⌝ }
+    ensures { λ r. ⌜ eqb r 0 ≡ allBelow (λ p. ltb (getD (now (parents .entry)) p 0) nodes) nodes ⌝ }
+{
+    let used = nodes as usize;
+    let mut faults = 0u16;
+    let mut p = 0;
+    while p < used {
+        faults = faults | parent_fault(nodes, parents[p]);
+        p += 1;
+    }
+    faults
+}
+
+fn wide(x: u8) -> u16
+    ensures { λ r. ⌜ r ≡ x ⌝ }
+{
+    x as u16
 }
 
 fn nodes_fit(nodes: u8, parents: &[u8; 64], starts: &[u16; 64]) -> bool
+    requires { ⌜ nodes ≤ 64 ⌝ }
     ensures { λ r. ⌜ r ≡ allBelow (λ p. nodeFits nodes p (getD (now (parents .entry)) p 0) (getD (now (starts .entry)) p 0)) 64 ⌝ }
 {
-    let mut faults = 0u16;
-    let mut p = 0u8;
+    let mut faults = parent_faults(nodes, parents);
+    let mut p = nodes as usize;
     while p < 64 {
-        let at = p as usize;
-        faults = faults | node_fault(nodes, p, parents[at], starts[at]);
+        faults = faults | (wide(parents[p]) | starts[p]);
         p += 1;
     }
     faults == 0
@@ -198,43 +216,60 @@ fn link_fits(nodes: u8, a: u8, b: u8, flag: u8) -> bool
     false
 }
 
-// What is wrong of the link (c, d) at place l, after the link (a, b).
-fn link_fault(nodes: u8, links: u8, l: u8, a: u8, b: u8, c: u8, d: u8, flag: u8) -> u8
-    ensures { λ r. ⌜ eqb r 0 ≡ standsAfter nodes links l a b c d flag ⌝ }
+// What is wrong of the link (c, d) after the link (a, b).
+fn link_fault(nodes: u8, a: u8, b: u8, c: u8, d: u8, flag: u8) -> u8
+    ensures { λ r. ⌜ eqb r 0 ≡ both (linkFits nodes c d flag) (rises a b c d) ⌝ }
 {
-    if l < links {
-        if link_fits(nodes, c, d, flag) {
-            if pair_rises(a, b, c, d) {
-                return 0;
-            }
-            return 1;
+    if link_fits(nodes, c, d, flag) {
+        if pair_rises(a, b, c, d) {
+            return 0;
         }
         return 1;
     }
-    c | (d | flag)
+    1
 }
 
-// Every link that fits rises above (0, 0), so the first needs no rule of its own.
-fn links_stand(
+// What is wrong of the links in use. Every link that fits rises above (0, 0), so the first needs no rule of its own.
+fn link_faults(
     nodes: u8,
-    links: u8,
+    links: usize,
     lowers: &[u8; 128],
     uppers: &[u8; 128],
     flags: &[u8; 128],
-) -> bool
-    ensures { λ r. ⌜ r ≡ allBelow (linkStands nodes links (now (lowers .entry)) (now (uppers .entry)) (now (flags .entry))) 128 ⌝ }
+) -> u8
+    requires { ⌜ links ≤ 128 ⌝ }
+    ensures { λ r. ⌜ eqb r 0 ≡ allBelow (linkStands nodes links (now (lowers .entry)) (now (uppers .entry)) (now (flags .entry))) links ⌝ }
 {
     let mut faults = 0u8;
     let mut a = 0u8;
     let mut b = 0u8;
-    let mut l = 0u8;
-    while l < 128 {
-        let at = l as usize;
-        let c = lowers[at];
-        let d = uppers[at];
-        faults = faults | link_fault(nodes, links, l, a, b, c, d, flags[at]);
+    let mut l = 0;
+    while l < links {
+        let c = lowers[l];
+        let d = uppers[l];
+        faults = faults | link_fault(nodes, a, b, c, d, flags[l]);
         a = c;
         b = d;
+        l += 1;
+    }
+    faults
+}
+
+// The links in use stand, and past them nothing does.
+fn links_stand(
+    nodes: u8,
+    links: usize,
+    lowers: &[u8; 128],
+    uppers: &[u8; 128],
+    flags: &[u8; 128],
+) -> bool
+    requires { ⌜ links ≤ 128 ⌝ }
+    ensures { λ r. ⌜ r ≡ allBelow (linkStands nodes links (now (lowers .entry)) (now (uppers .entry)) (now (flags .entry))) 128 ⌝ }
+{
+    let mut faults = link_faults(nodes, links, lowers, uppers, flags);
+    let mut l = links;
+    while l < 128 {
+        faults = faults | (lowers[l] | (uppers[l] | flags[l]));
         l += 1;
     }
     faults == 0
@@ -341,9 +376,8 @@ impl Network {
         let preferred = self.preferred;
         if within_limits(nodes, links, self.rounds) {
             let n = nodes as u8;
-            let m = links as u8;
             if nodes_fit(n, &parents, &starts) {
-                if links_stand(n, m, &lowers, &uppers, &flags) {
+                if links_stand(n, links, &lowers, &uppers, &flags) {
                     return sets_agree(
                         &parents,
                         &lowers,

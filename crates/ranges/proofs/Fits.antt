@@ -1,6 +1,5 @@
 -- A row of limits: what each place of an array may hold at most, so much where it is in use and 0 where not. Held against the row of its kind,
--- the counts pass exactly where `countsFit` says; held against theirs, the lengths of the queues where `lengthsFit` says. And the entries past
--- those in use.
+-- the counts pass exactly where `countsFit` says. And the lengths and the places of the queues, and the entries past those in use.
 -- Assumes nothing.
 use Prim.Native.Nat.{ℕ, _+_, _*_, _/_, _%_, _<_, _≤_, min}
 use native.Mathlib.Omega.{arith}
@@ -10,6 +9,7 @@ use mathlib.Core.Bool.{Bool, true}
 use mathlib.Core.List.{List}
 use lib.Dec.{leb, eqb}
 use lib.ListN.{length, getD, replicate, length-replicate, getD-replicate, List·getD-eq-default}
+use borrow.Author.Tests.{leb-true, le-leb, eqb-true, eq-eqb}
 use Rattle.laws.specs.Choice.{ifLt, ifEq, both}
 use Rattle.laws.specs.Below.{allBelow, overBelow, listBelow}
 use Rattle.laws.proofs.Choice.{ifLt-yes, ifLt-no, ifEq-yes, ifEq-no, eq-elim, lt-elim, both-yes, both-left, both-right, same-test}
@@ -18,7 +18,7 @@ use Rattle.actions.specs.Kinds.{kinds, indexOf, cellOf}
 use Rattle.actions.specs.Records.{bodyTable}
 use Rattle.actions.proofs.Numbers.{number-at, body-at}
 use Rattle.queue.specs.Queue.{packet, ack}
-use Rattle.ranges.specs.Fits.{usedBy, entryFits, rowFits, countsFit, lengthsFit, sortFits, sortsFit, pastFits, restFits}
+use Rattle.ranges.specs.Fits.{usedBy, entryFits, rowFits, countsFit, sortFits, sortsFit, pastFits, restFits}
 
 -- the limits of 256 places, of which so many are in use
 abbrev pub limitsOf : ℕ → ℕ → List ℕ
@@ -53,9 +53,15 @@ module _ (nodes links rounds : ℕ) where
   rows-are-counts counts =
       all-same _ _ (length kinds) (λ i h. all-same _ _ 256 (λ x l. ap₂ (λ (c m : ℕ). leb (getD counts c 0) m) (omega (arith, number-at i h)) (limit-of (getD bodyTable i 0) x l ∙ ap (λ n. ifLt x (ifEq n 1 nodes (links * 2)) rounds 0) (body-at i h))))
 
-pub lengths-are-entries : (links : ℕ) (lens : List ℕ) → allBelow (λ d. leb (getD lens d 0) (getD (limitsOf (links * 2) 2) d 0)) 256 ≡ lengthsFit links lens
-unfolding lengthsFit entryFits
-lengths-are-entries links lens = all-same _ _ 256 (λ d h. ap (leb (getD lens d 0)) (limit-at (links * 2) 2 d h))
+-- a queue in use holds two at most, and one past those in use none
+pub length-in : (used d len : ℕ) → d < used → leb len 2 ≡ entryFits 2 used d len
+unfolding entryFits
+length-in used d len h = ap (leb len) (sym (ifLt-yes d used 2 0 h))
+
+pub length-past : (used d len : ℕ) → used ≤ d → eqb len 0 ≡ entryFits 2 used d len
+unfolding entryFits
+length-past used d len h =
+    same-test _ _ (λ e. le-leb len _ (omega (arith, eqb-true len 0 e))) (λ e. eq-eqb len 0 (omega (arith, leb-true len (ifLt d used 2 0) e, ifLt-no {A = ℕ} d used 2 0 h)))
 
 -- ---- the places of the queues, one after the other
 

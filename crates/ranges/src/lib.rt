@@ -1,7 +1,7 @@
 // The state half of answer 17, over the arrays of any state. Each is gone through once from end to end, with what is wrong of each entry gathered
 // into one number, so that the loops go many entries at a time.
 ghost use mathlib.Core.Path.{_≡_};
-ghost use Prim.Native.Nat.{_+_, _*_, _/_, _%_, _<_, min};
+ghost use Prim.Native.Nat.{_+_, _*_, _/_, _%_, _<_, _≤_, min};
 ghost use lib.Dec.{leb, eqb};
 ghost use lib.ListN.{length, getD};
 ghost use Rattle.laws.specs.Choice.{ifLt, ifEq};
@@ -97,30 +97,40 @@ fn counts_fit(nodes: u8, links: u8, rounds: u16, counts: &[u16; 5120]) -> bool
     rows_fit(&bodies, counts, &of_nodes, &of_lanes)
 }
 
-fn wide(x: u8) -> u16
-    ensures { λ r. ⌜ r ≡ x ⌝ }
+fn length_fault(len: u8) -> u8
+    ensures { λ r. ⌜ eqb r 0 ≡ leb len 2 ⌝ }
 {
-    x as u16
+    if len <= 2 {
+        return 0;
+    }
+    1
 }
 
-fn each_fits(lens: &[u8; 256], limits: &[u16; 256]) -> bool
-    ensures { λ r. ⌜ r ≡ allBelow (λ d. leb (getD (now (lens .entry)) d 0) (getD (now (limits .entry)) d 0)) 256 ⌝ }
+fn length_faults(lens: &[u8; 256], used: usize) -> u8
+    requires { ⌜ used ≤ 256 ⌝ }
+    ensures { λ r. ⌜ eqb r 0 ≡ allBelow (λ d. leb (getD (now (lens .entry)) d 0) 2) used ⌝ }
 {
-    let mut faults = 0u16;
+    let mut faults = 0u8;
     let mut d = 0;
-    while d < 256 {
-        faults = faults | excess(wide(lens[d]), limits[d]);
+    while d < used {
+        faults = faults | length_fault(lens[d]);
         d += 1;
     }
-    faults == 0
+    faults
 }
 
 // "a queue is said to hold more than two"; past the link count it holds none.
 fn lengths_fit(links: u8, lens: &[u8; 256]) -> bool
     ensures { λ r. ⌜ r ≡ lengthsFit links (now (lens .entry)) ⌝ }
 {
-    let of_lanes = limits((links as usize) * 2, 2);
-    each_fits(lens, &of_lanes)
+    let used = in_row((links as usize) * 2);
+    let mut faults = length_faults(lens, used);
+    let mut d = used;
+    while d < 256 {
+        faults = faults | lens[d];
+        d += 1;
+    }
+    faults == 0
 }
 
 // 1 where place j of a queue of that length holds a message.

@@ -8,15 +8,15 @@ ghost use Rattle.nodeset.specs.Marks.{member};
 ghost use Rattle.actions.specs.Table.{knowsBy, mayGoBy};
 ghost use Rattle.synchronizer.specs.Wires.{Below64, joined, lanesOf, laneIn, isRoot};
 
-// Link l from a to b: direction 2 l, and 2 l + 1 back.
+// Link l from a to b: direction 2 l, and 2 l + 1 back. A node has six digits, so that `|` puts one behind the other.
 fn join(lanes: &mut [u8; 4096], a: u8, b: u8, l: u8)
     requires { ⌜ (a < 64) × (b < 64) × (l < 128) ⌝ }
     ensures { λ _. ⌜ now (lanes .exit) ≡ joined (now (lanes .entry)) a b l ⌝ }
 {
     let low = a as usize;
     let high = b as usize;
-    lanes[low * 64 + high] = l * 2;
-    lanes[high * 64 + low] = l * 2 + 1;
+    lanes[(low * 64) | high] = l * 2;
+    lanes[(high * 64) | low] = l * 2 + 1;
 }
 
 pub(crate) fn lanes_of<'a>(lowers: &'a [u8; 128], uppers: &'a [u8; 128], links: usize) -> [u8; 4096]

@@ -42,9 +42,8 @@ valid-spec =
     tie.close
     (tie.spec (λ c κs. search needs)
     (λ c. search (needs, in-limits c))
-    (λ c. search (needs, in-limits c))
-    (λ c κs. search needs)
-    (λ c κs. search needs)
+    (λ c κs. in-limits (c .before .before) .at-most-64-nodes)
+    (λ c κs. in-limits (c .before .before .before .before .before .before .before) .at-most-128-links)
     (λ c κs. (in-limits (c .before .before .before .before .before .before .before .before .before .before .before .before .before .before .before .before) .at-most-64-nodes, in-limits (c .before .before .before .before .before .before .before .before .before .before .before .before .before .before .before .before) .at-most-128-links))
     returns
     returns-2
