@@ -1,13 +1,11 @@
 // One call, made of both sides with the same bytes, network, state or buffer, and what comes back compared.
 use compare::networks::plan_of;
-use compare::networks::same_network;
 use compare::states::draw_state;
 use compare::states::same_state;
 use compare::tally::Tally;
 use compare::tally::same;
 use compare::tally::same_answer;
 use network::Network;
-use records::Planned;
 use second_plan::memory::*;
 use synchronizer::Acted;
 use synchronizer::Done;
@@ -16,25 +14,6 @@ use synchronizer::State;
 
 // An action in bytes; the last is not read where it has one number.
 pub type Action = [u8; 3];
-
-pub fn try_plan(tally: &mut Tally, bytes: &[u8]) -> Planned {
-    let mut plan = [0usize; PLAN];
-    let ours = plan::read_plan(bytes);
-    let theirs = second_plan::read_plan(&mut plan, bytes);
-    same_answer(tally, b", plan's answer ", ours.number, theirs.number);
-    same(tally, b", plan's place ", ours.place, theirs.place);
-    let net = ours.network;
-    same_network(tally, net, &plan);
-    ours
-}
-
-// The first so many bytes, read as a plan.
-pub fn try_part(tally: &mut Tally, bytes: &[u8], size: usize) -> Planned {
-    if size < bytes.len() {
-        return try_plan(tally, &bytes[0..size]);
-    }
-    try_plan(tally, bytes)
-}
 
 // The start state of a network.
 pub fn try_start(tally: &mut Tally, net: Network) -> State {

@@ -1,7 +1,7 @@
 // The trials of document 01 that are not in the small proved set, each with its known end.
+use crate::reading::try_part;
+use crate::reading::try_plan;
 use calls::both::try_list;
-use calls::both::try_part;
-use calls::both::try_plan;
 use compare::tally::Tally;
 use compare::tally::begin;
 use compare::tally::same;

@@ -1,9 +1,10 @@
 // Trials of the bench against the second simulator. Each side gets the same bytes, networks, states and buffers, and every answer, place,
 // count, value, state and buffer that comes back is compared. What is tried is drawn from a seed, so that every run tries the same.
 mod known;
+mod reading;
 mod spoilt;
 
-use calls::both::try_part;
+use crate::reading::try_part;
 use calls::both::try_start;
 use calls::tables::try_tables;
 use compare::tally::Tally;
