@@ -59,6 +59,15 @@ fn enter_start_values(plan: &Plan, world: &mut World) {
     }
 }
 
+// "Table entries past the node count are not written."
+fn hand_out(world: &World, nodes: usize, out: &mut [u16])
+    requires { ⌜ nodes ≤ length (now out) ⌝ }
+{
+    for p in 0..nodes {
+        out[p] = cell(world, VALUE, p, p);
+    }
+}
+
 // "In the start state all counts and slots are 0, queues are empty and values are the plan's."
 // "a start state refused by 17 is all zeros"
 pub fn start(plan: &Plan, world: &mut World) -> u8 {
@@ -90,15 +99,6 @@ fn lockstep(plan: &Plan, world: &mut World, rounds: usize) {
     for _ in 0..rounds {
         tell_all(world);
         input_all(plan, world);
-    }
-}
-
-// "Table entries past the node count are not written."
-fn hand_out(world: &World, nodes: usize, out: &mut [u16])
-    requires { ⌜ nodes ≤ length (now out) ⌝ }
-{
-    for p in 0..nodes {
-        out[p] = cell(world, VALUE, p, p);
     }
 }
 
