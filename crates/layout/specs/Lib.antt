@@ -1,0 +1,4 @@
+pub mod FirstLinks
+pub mod LaidOut
+pub mod Layout
+pub mod Numbers
