@@ -1,1 +1,5 @@
+pub mod Clusters
+pub mod Fields
+pub mod Places
 pub mod Preferred
+pub mod Records
