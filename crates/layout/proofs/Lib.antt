@@ -1,5 +1,7 @@
+pub mod Bytes
 pub mod Clusters
 pub mod Fields
 pub mod Places
 pub mod Preferred
 pub mod Records
+pub mod Relaid
