@@ -1,6 +1,6 @@
 -- The layout's answer for any bytes, any depth and any buffer, and what the buffer holds afterwards. `LaidOut` says what is written.
 -- Assumes nothing.
-use Prim.Native.Nat.{ℕ, _+_, _*_, _<_}
+use Prim.Native.Nat.{ℕ, _+_, _*_, _<_, _≤_}
 use mathlib.Core.List.{List}
 use lib.ListN.{length, getD, set, replicate}
 use Rattle.laws.specs.Choice.{ifB, ifLt, ifEq}
@@ -83,6 +83,13 @@ unfoldable pub laidOver : List ℕ → ℕ → Network → ℕ → List ℕ → 
 laidOver s n net depth out =
     withFlags (laidFlags net depth) (nodesOf net) (linksOf net)
     (withParents (laidParents net depth) (nodesOf net) (copied s n out))
+
+-- the plan's bytes stand in s and fit the buffer, with a place for each parent and flag, and its links join clusters
+pub record LaysOut (s : List ℕ) (n : ℕ) (net : Network) (depth room : ℕ) : Type 0 where
+  pub there : n ≤ length s
+  pub fits : n ≤ room
+  pub fields : 4 + 5 * nodesOf net + 4 * linksOf net ≤ n
+  pub clustered : Clustered (rootsOf (laidParents net depth) (nodesOf net)) (net .lowers) (net .uppers) (linksOf net)
 
 -- "a refused layout writes nothing, an accepted one nothing past the plan"
 unfoldable pub laidIn : List ℕ → ℕ → List ℕ → List ℕ

@@ -12,7 +12,7 @@ use records::read_lists;
 ghost use mathlib.Core.Path.{_≡_};
 ghost use Prim.Native.Nat.{ℕ, _+_, _*_, _<_, _≤_};
 ghost use lib.ListN.{length};
-ghost use Rattle.layout.specs.Layout.{copied, withFields, flagBy, metWith, firstFlags, Clustered, layoutOf, laidIn};
+ghost use Rattle.layout.specs.Layout.{copied, withFields, flagBy, metWith, firstFlags, Clustered, LaysOut, laidOver, layoutOf, laidIn};
 
 // "depth above 63"
 pub const TOO_DEEP: u8 = 22;
@@ -99,5 +99,63 @@ fn put_fields(fields: &[u8], count: usize, at: usize, width: usize, out: &mut [u
         let place = at + width * k;
         out[place] = fields[k];
         k += 1;
+    }
+}
+
+// The plan of `taken` bytes with the network's parents and flags laid out anew.
+fn lay(bytes: &[u8], taken: usize, net: Network, depth: u8, out: &mut [u8])
+    requires { ⌜ LaysOut (now bytes) taken net depth (length (now out)) ⌝ }
+    ensures { λ _. ⌜ now (out .exit) ≡ laidOver (now (bytes .entry)) taken net depth (now (out .entry)) ⌝ }
+{
+    let nodes = at_most(net.nodes, 64);
+    let links = at_most(net.links, 128);
+    let sets = net.neighbours;
+    let lowers = net.lowers;
+    let uppers = net.uppers;
+    let parents = claims::parents(&sets, nodes, depth);
+    let roots = root_table(&parents, nodes);
+    let flags = first_flags(&roots, &lowers, &uppers, links);
+    let flags_at = NODES_AT + NODE_WIDTH * nodes + FLAG_AT;
+    copy(bytes, taken, out);
+    put_fields(&parents, nodes, NODES_AT + PARENT_AT, NODE_WIDTH, out);
+    put_fields(&flags, links, flags_at, LINK_WIDTH, out);
+}
+
+// Any bytes, any depth, any buffer: 1 to 5 as the plan reader, 10, 22, 23, in this order, and nothing is written; or 0, and the buffer begins with
+// the plan laid out.
+pub fn layout(bytes: &[u8], depth: usize, out: &mut [u8]) -> Laid
+    ensures { λ r. ⌜ (r ≡ layoutOf (now (bytes .entry)) depth (length (now (out .entry)))) × (now (out .exit) ≡ laidIn (now (bytes .entry)) depth (now (out .entry))) ⌝ }
+{
+    let lists = read_lists(bytes);
+    let number = lists.number;
+    let place = lists.place;
+    if number != ACCEPTED {
+        return Laid { number, place };
+    }
+    let bare = lists.network;
+    let net = bare.with_sets();
+    let unjoined = first_unjoined(net);
+    if unjoined < at_most(net.nodes, 64) {
+        return Laid {
+            number: UNJOINED,
+            place: unjoined,
+        };
+    }
+    if DEEPEST < depth {
+        return Laid {
+            number: TOO_DEEP,
+            place: 0,
+        };
+    }
+    if out.len() < place {
+        return Laid {
+            number: NO_ROOM,
+            place: 0,
+        };
+    }
+    lay(bytes, place, net, depth as u8, out);
+    Laid {
+        number: ACCEPTED,
+        place,
     }
 }
