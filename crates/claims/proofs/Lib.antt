@@ -3,6 +3,7 @@ pub mod Clauses
 pub mod Layouts
 pub mod Marks
 pub mod Puts
+pub mod Sound
 pub mod Steps
 pub mod Turns
 pub mod Unique
