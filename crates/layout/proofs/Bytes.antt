@@ -8,9 +8,8 @@ use mathlib.Core.List.{List, [], _∷_, _++_, append-assoc}
 use lib.ListN.{length, getD, set, take, drop, length-append, length-drop}
 use lib.Seq.{length-take-le, take-suc, drop-cons, append-snoc, set-at, take-at, drop-at}
 use Rattle.laws.specs.Below.{overBelow}
-use Rattle.laws.proofs.Below.{fold-same}
 use Rattle.records.specs.Plan.{Plan, PlanNode, PlanLink, twoBytes, roundsBytes, nodeBytes, nodesBytes, linkBytes, linksBytes, bytesOf}
-use Rattle.layout.specs.Layout.{parentPlace, flagPlace, copied, withParents, withFlags}
+use Rattle.layout.specs.Layout.{copied, withFields, withParents, withFlags}
 use Rattle.layout.proofs.Fields.{eachWith, run-with}
 use Rattle.layout.proofs.Records.{numberedLink, rounds-wide, node-wide, link-wide, nodes-run, links-run, nodes-length, plan-length}
 use Rattle.layout.proofs.Relaid.{withParent, withFlag, relaid, relaid-nodes, relaid-links}
@@ -39,17 +38,15 @@ flag-put number v x rest = refl
 
 -- the parents of nodes that stand behind a plan's rounds
 parents-written : (parents : List ℕ) (v : ℕ) (xs : List PlanNode) (after : List ℕ) → withParents parents (length xs) (roundsBytes v ++ (nodesBytes 0 xs ++ after)) ≡ roundsBytes v ++ (nodesBytes 0 (eachWith withParent (λ i. getD parents i 0) xs) ++ after)
-unfolding withParents parentPlace
+unfolding withParents withFields
 parents-written parents v xs after =
-    fold-same (λ i l. set l (parentPlace i) (getD parents i 0)) (λ i l. set l (5 + 5 * i) (getD parents i 0)) (roundsBytes v ++ (nodesBytes 0 xs ++ after)) (length xs) (λ i _ l. ap (λ k. set l k (getD parents i 0)) (omega arith))
-    ∙ rw (nodes-run 0 xs, nodes-run 0 (eachWith withParent (λ i. getD parents i 0) xs)) (run-with nodeBytes 5 node-wide 2 withParent parent-put (λ i. getD parents i 0) 0 5 (roundsBytes v) xs after (omega (arith, rounds-wide v)))
+    rw (nodes-run 0 xs, nodes-run 0 (eachWith withParent (λ i. getD parents i 0) xs)) (run-with nodeBytes 5 node-wide 2 withParent parent-put (λ i. getD parents i 0) 0 5 (roundsBytes v) xs after (omega (arith, rounds-wide v)))
 
 -- the flags of links that stand behind a plan's rounds and nodes
 flags-written : (flags : List ℕ) (nodes : ℕ) (before : List ℕ) (xs : List PlanLink) (after : List ℕ) → length before ≡ 3 + 5 * nodes → withFlags flags nodes (length xs) (before ++ (linksBytes xs ++ after)) ≡ before ++ (linksBytes (eachWith withFlag (λ l. getD flags l 0) xs) ++ after)
-unfolding withFlags flagPlace
+unfolding withFlags withFields
 flags-written flags nodes before xs after e =
-    fold-same (λ l bs. set bs (flagPlace nodes l) (getD flags l 0)) (λ l bs. set bs (3 + 5 * nodes + 3 + 4 * l) (getD flags l 0)) (before ++ (linksBytes xs ++ after)) (length xs) (λ l _ bs. ap (λ k. set bs k (getD flags l 0)) (omega arith))
-    ∙ rw (links-run 0 xs, links-run 0 (eachWith withFlag (λ l. getD flags l 0) xs)) (run-with numberedLink 4 link-wide 3 withFlag flag-put (λ l. getD flags l 0) 0 (3 + 5 * nodes + 3) before xs after (omega arith))
+    rw (links-run 0 xs, links-run 0 (eachWith withFlag (λ l. getD flags l 0) xs)) (run-with numberedLink 4 link-wide 3 withFlag flag-put (λ l. getD flags l 0) 0 (3 + 5 * nodes + 3) before xs after (omega arith))
 
 -- ---- the whole plan
 

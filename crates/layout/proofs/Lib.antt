@@ -2,6 +2,7 @@ pub mod Bytes
 pub mod Clusters
 pub mod Consequences
 pub mod Fields
+pub mod Flags
 pub mod KeepsRecords
 pub mod KeepsWhole
 pub mod One

@@ -1,5 +1,5 @@
 -- What bytes that rules 1 to 5 let pass are known by, for the code that writes over them: the plan's length by its counts, that all of it stands
--- in the bytes, where its parents and flags stand, and that the ends of its links are nodes.
+-- in the bytes, and that the ends of its links are nodes.
 -- Assumes nothing.
 use Prim.Native.Nat.{ℕ, _+_, _*_, _<_, _≤_}
 use native.Mathlib.Omega.{arith}
@@ -16,8 +16,8 @@ use Rattle.records.proofs.Answers.{answer-accepted}
 use Rattle.records.proofs.Kept.{kept-ends}
 use Rattle.links.specs.Links.{nodesOf, linksOf}
 use Rattle.plan.specs.Accepted.{planNetwork}
-use Rattle.layout.specs.Layout.{wiresOf, parentPlace, flagPlace}
-use Rattle.layout.proofs.Records.{plan-length, parent-inside, flag-inside}
+use Rattle.layout.specs.Layout.{wiresOf}
+use Rattle.layout.proofs.Records.{plan-length}
 
 -- ---- the network of a plan
 
@@ -60,13 +60,6 @@ module _ (s : List ℕ) (small : Bytes s) (none : listsOf s .number ≡ accepted
       let nodes : nodesOf (wiresOf s) ≡ length (held .plan .nodes) = ap nodesOf wires-of-plan ∙ all-nodes (held .plan) (held .keeps) in
       let links : linksOf (wiresOf s) ≡ length (held .plan .links) = ap linksOf wires-of-plan ∙ all-links (held .plan) (held .keeps) in
       omega (arith, nodes, links, length-take-le (listsOf s .place) s (held .within), ap length (held .bytes), plan-length (held .plan))
-
-  -- each parent and flag byte stands in the plan
-  pub parent-within : (p : ℕ) → p < nodesOf (wiresOf s) → parentPlace p < listsOf s .place
-  parent-within p h = rw place-told (parent-inside (nodesOf (wiresOf s)) (linksOf (wiresOf s)) p h)
-
-  pub flag-within : (l : ℕ) → l < linksOf (wiresOf s) → flagPlace (nodesOf (wiresOf s)) l < listsOf s .place
-  flag-within l h = rw place-told (flag-inside (nodesOf (wiresOf s)) (linksOf (wiresOf s)) l h)
 
   pub ends-within : (l : ℕ) → l < linksOf (wiresOf s) → (getD (wiresOf s .lowers) l 0 < nodesOf (wiresOf s)) × (getD (wiresOf s .uppers) l 0 < nodesOf (wiresOf s))
   ends-within l h = rw wires-of-plan (ends-are-nodes (held .plan) (held .keeps) l (rw wires-of-plan at h))

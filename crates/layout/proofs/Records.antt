@@ -7,7 +7,6 @@ use mathlib.Core.Path.{_≡_, refl, ap}
 use mathlib.Core.List.{List, [], _∷_, _++_}
 use lib.ListN.{length, length-append}
 use Rattle.records.specs.Plan.{Plan, PlanNode, PlanLink, twoBytes, roundsBytes, nodeBytes, nodesBytes, linkBytes, linksBytes, bytesOf}
-use Rattle.layout.specs.Layout.{parentPlace, flagPlace}
 use Rattle.layout.proofs.Fields.{run, run-length}
 
 pub rounds-wide : (v : ℕ) → length (roundsBytes v) ≡ 3
@@ -53,14 +52,3 @@ plan-length p =
     let nodes = nodesBytes 0 (p .nodes) in
     let links = linksBytes (p .links) in
     omega (arith, length-append (rounds ++ nodes ++ links) (0 ∷ []), length-append (rounds ++ nodes) links, length-append rounds nodes, rounds-wide (p .rounds), nodes-length 0 (p .nodes), links-length (p .links))
-
--- ---- places
-
--- every parent byte stands before the links, every flag byte before kind 0
-pub parent-inside : (nodes links p : ℕ) → p < nodes → parentPlace p < 4 + 5 * nodes + 4 * links
-unfolding parentPlace
-parent-inside nodes links p h = omega arith
-
-pub flag-inside : (nodes links l : ℕ) → l < links → flagPlace nodes l < 4 + 5 * nodes + 4 * links
-unfolding flagPlace
-flag-inside nodes links l h = omega arith
