@@ -10,17 +10,15 @@ use Rattle.laws.proofs.Choice.{ifLt-yes}
 use Rattle.laws.proofs.Below.{over-below}
 use Rattle.tree.specs.Climb.{parentIn, rootFrom, rootNumber, Leads}
 use Rattle.tree.proofs.Roots.{found-exactly, leads-root}
-use Rattle.clusters.specs.Clusters.{rootsOf, rootAt}
-use Rattle.claims.specs.Claimed.{ClaimedSo}
-use Rattle.claims.specs.Claiming.{claimAll, parentsOf, claimsOf, nearBy}
+use Rattle.clusters.specs.Clusters.{rootsOf, rootAt, clusterAt}
+use Rattle.claims.specs.Claiming.{claimAll, parentsOf}
 use Rattle.claims.proofs.Layouts.{deep-leads}
+use Rattle.claims.proofs.Steps.{claimed-so}
 use Rattle.records.specs.Numbers.{accepted}
 use Rattle.records.specs.Reader.{listsOf}
 use Rattle.records.specs.Keeps.{Bytes}
 use Rattle.links.specs.Links.{nodesOf, linksOf}
-use Rattle.clusters.specs.Clusters.{clusterAt}
 use Rattle.layout.specs.Layout.{wiresOf, laidParents}
-use Rattle.claims.proofs.Steps.{claimed-so}
 use Rattle.layout.proofs.Places.{ends-within}
 
 -- the table holds the root that the parents of a node lead to

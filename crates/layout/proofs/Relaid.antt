@@ -3,10 +3,10 @@
 -- Assumes nothing.
 use Prim.Native.Nat.{ℕ, _<_}
 use mathlib.Core.Path.{_≡_, refl}
-use mathlib.Core.List.{List, map}
+use mathlib.Core.List.{List}
 use lib.ListN.{length, getD}
 use Rattle.records.specs.Plan.{Plan, PlanNode, PlanLink}
-use Rattle.layout.specs.LaidOut.{parentsIn, SameWires}
+use Rattle.layout.specs.LaidOut.{parentsIn, flagsIn, SameWires}
 use Rattle.layout.proofs.Fields.{eachWith, each-length, each-new, each-old}
 
 abbrev pub withParent : ℕ → PlanNode → PlanNode
@@ -44,5 +44,5 @@ module _ (parents flags : List ℕ) (p : Plan) where
   pub relaid-parent : (i : ℕ) → i < length (p .nodes) → getD (parentsIn (relaid parents flags p)) i 0 ≡ getD parents i 0
   relaid-parent = each-new withParent (λ x. x .parent) (λ v x. refl) (λ i. getD parents i 0) (p .nodes)
 
-  pub relaid-flag : (l : ℕ) → l < length (p .links) → getD (map (λ x. x .flag) (relaid parents flags p .links)) l 0 ≡ getD flags l 0
+  pub relaid-flag : (l : ℕ) → l < length (p .links) → getD (flagsIn (relaid parents flags p)) l 0 ≡ getD flags l 0
   relaid-flag = each-new withFlag (λ x. x .flag) (λ v x. refl) (λ l. getD flags l 0) (p .links)
