@@ -9,5 +9,6 @@ pub mod One
 pub mod Places
 pub mod Preferred
 pub mod Records
+pub mod Refusals
 pub mod Relaid
 pub mod Wires
