@@ -5,7 +5,7 @@ use Prim.Native.Nat.{ℕ, zero, suc, _+_, _*_, _≤_}
 use native.Mathlib.Omega.{arith}
 use mathlib.Core.Path.{_≡_, refl, sym, _∙_, ap}
 use mathlib.Core.List.{List, [], _∷_, _++_, append-assoc}
-use lib.ListN.{length, getD, set, take, drop, length-append, length-drop}
+use lib.ListN.{length, getD, set, take, drop, length-append}
 use lib.Seq.{length-take-le, take-suc, drop-cons, append-snoc, set-at, take-at, drop-at}
 use Rattle.laws.specs.Below.{overBelow}
 use Rattle.records.specs.Plan.{Plan, PlanNode, PlanLink, twoBytes, roundsBytes, nodeBytes, nodesBytes, linkBytes, linksBytes, bytesOf}
@@ -97,14 +97,9 @@ module _ (parents flags : List ℕ) (p : Plan) where
     bytes-long : length (bytesOf (relaid parents flags p)) ≡ n
     bytes-long = relaid-length ∙ ap length (sym holds) ∙ length-take-le n s within
 
-    -- the plan's bytes, what stands behind them, and the buffer's length
+    -- the plan's bytes, and what stands behind them
     pub laid-front : take n (replacedIn parents flags p (copied s n out)) ≡ bytesOf (relaid parents flags p)
     laid-front = ap (take n) laid-bytes ∙ take-at (bytesOf (relaid parents flags p)) (drop n out) n bytes-long
 
     pub laid-rest : drop n (replacedIn parents flags p (copied s n out)) ≡ drop n out
     laid-rest = ap (drop n) laid-bytes ∙ drop-at (bytesOf (relaid parents flags p)) (drop n out) n bytes-long
-
-    pub laid-length : length (replacedIn parents flags p (copied s n out)) ≡ length out
-    laid-length =
-        ap length laid-bytes
-        ∙ omega (arith, length-append (bytesOf (relaid parents flags p)) (drop n out), bytes-long, length-drop n out)
