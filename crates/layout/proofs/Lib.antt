@@ -14,4 +14,5 @@ pub mod Preferred
 pub mod Records
 pub mod Relaid
 pub mod Wires
+pub mod Worked
 pub mod Written
