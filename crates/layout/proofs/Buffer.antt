@@ -22,7 +22,7 @@ use Rattle.layout.proofs.Bytes.{replacedIn, laid-front, laid-rest}
 use Rattle.layout.proofs.LaidPlan.{laidPlan, laid-plan-so}
 use Rattle.layout.proofs.One.{laid-again, laid-one}
 use Rattle.layout.proofs.Places.{all-nodes, all-links}
-use Rattle.layout.proofs.Written.{written-held, written-joined, written-accepted}
+use Rattle.layout.proofs.Written.{written-held, written-joined, written-accepted, written-from, written-one}
 
 -- ---- bytes that hold a plan whose nodes are joined
 
@@ -97,6 +97,13 @@ module _ (s : List ℕ) (depth : ℕ) (out : List ℕ) where
     -- "what is written is always accepted"
     pub laid-accepted : planOf (laidIn s depth out) ≡ acceptedWith (layoutOf s depth (length out) .place) (planNetwork (laid-so .laid-plan))
     laid-accepted = written-accepted laid-so
+
+    -- bytes after kind 0 are neither read nor copied
+    pub rest-not-read : (t : List ℕ) → layoutOf s depth (length out) .place ≤ length t → take (layoutOf s depth (length out) .place) t ≡ take (layoutOf s depth (length out) .place) s → (layoutOf t depth (length out) ≡ layoutOf s depth (length out)) × (laidIn t depth out ≡ laidIn s depth out)
+    rest-not-read t within e =
+        let W = written-from laid-so t within e in
+        let n = layoutOf s depth (length out) .place in
+        (joined-answer (W .given) (W .joined) (W .shallow) out (W .room) ∙ (λ i. record { number = sym none i; place = n }), written-one (joined-written (W .given) (W .joined) (W .shallow) out (W .room)) W .1)
 
 -- ---- what was written, laid out again to the same depth
 

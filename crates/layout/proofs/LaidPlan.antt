@@ -13,19 +13,19 @@ use Rattle.network.specs.Sets.{withSets}
 use Rattle.records.specs.Plan.{Plan, padded, networkOf, Keeps1to5}
 use Rattle.records.proofs.Lists.{length-padded, padded-past}
 use Rattle.links.specs.Links.{nodesOf, linksOf}
-use Rattle.clusters.specs.Clusters.{rootsOf, rootTable, clusterAt, clusterOf}
+use Rattle.clusters.specs.Clusters.{rootsOf, rootAt, clusterAt, clusterOf}
 use Rattle.clusters.proofs.Roots.{table-holds}
 use Rattle.plan.specs.Accepted.{planNetwork}
 use Rattle.claims.specs.Claimed.{Claims, ClaimedSo}
 use Rattle.claims.specs.Claiming.{claimAll, parentsOf, claimsOf, nearBy}
 use Rattle.claims.proofs.Steps.{claimed-so, parents-length, parents-past}
 use Rattle.claims.proofs.Turns.{claimed-links}
-use Rattle.layout.specs.FirstLinks.{firstFlag, FirstLinks}
+use Rattle.layout.specs.FirstLinks.{firstFlag}
 use Rattle.layout.specs.Layout.{laidParents, firstFlags, laidFlags}
 use Rattle.layout.specs.LaidOut.{parentsIn, wired, LaidOut}
 use Rattle.layout.proofs.Consequences.{parent-in-network, flag-in-network}
 use Rattle.layout.proofs.Places.{all-nodes, all-links}
-use Rattle.layout.proofs.Preferred.{first-links-exactly}
+use Rattle.layout.proofs.Preferred.{firstFlagIn, first-links-exactly}
 use Rattle.layout.proofs.Relaid.{relaid, relaid-nodes, relaid-links, relaid-same, relaid-parent, relaid-flag}
 use Rattle.layout.proofs.Wires.{near-is-wired}
 
@@ -88,37 +88,41 @@ module _ (depth : ℕ) (p : Plan) (K : Keeps1to5 p) where
   unfolding withSets networkOf
   links-kept = omega (arith, relaid-links parents flags p)
 
-  table : rootsOf parents n ≡ rootTable (planNetwork q)
-  table = sym (ap₂ rootsOf parents-kept nodes-kept)
+  -- the code's table of roots holds the clusters of the plan that is written
+  cluster-kept : (x : ℕ) → rootAt (rootsOf parents n) x ≡ clusterOf (planNetwork q) x
+  cluster-kept x =
+      ap (λ roots. rootAt roots x) (sym (ap₂ rootsOf parents-kept nodes-kept)) ∙ table-holds (planNetwork q) x
 
-  -- the clusters at the ends of the links, by the code's table and by the plan that is written
-  lower-is : (k : ℕ) → clusterAt (rootsOf parents n) (planNetwork p .lowers) k ≡ clusterOf (planNetwork q) (getD (planNetwork q .lowers) k 0)
+  lowers-kept : planNetwork p .lowers ≡ planNetwork q .lowers
   unfolding withSets networkOf
-  lower-is k =
-      ap₂ (λ roots ends. clusterAt roots ends k) table (ap (padded 128) (sym (relaid-same parents flags p .lowers)))
-      ∙ table-holds (planNetwork q) (getD (planNetwork q .lowers) k 0)
+  lowers-kept = ap (padded 128) (sym (relaid-same parents flags p .lowers))
 
-  upper-is : (k : ℕ) → clusterAt (rootsOf parents n) (planNetwork p .uppers) k ≡ clusterOf (planNetwork q) (getD (planNetwork q .uppers) k 0)
+  uppers-kept : planNetwork p .uppers ≡ planNetwork q .uppers
   unfolding withSets networkOf
-  upper-is k =
-      ap₂ (λ roots ends. clusterAt roots ends k) table (ap (padded 128) (sym (relaid-same parents flags p .uppers)))
-      ∙ table-holds (planNetwork q) (getD (planNetwork q .uppers) k 0)
+  uppers-kept = ap (padded 128) (sym (relaid-same parents flags p .uppers))
 
-  flag-computed : (l : ℕ) → l < linksOf (planNetwork p) → getD flags l 0 ≡ firstFlag (clusterAt (rootsOf parents n) (planNetwork p .lowers)) (clusterAt (rootsOf parents n) (planNetwork p .uppers)) l
+  -- the flag that the code computes of link l, and that of the plan that is written
+  abbrev computed : ℕ → ℕ
+  computed = firstFlag (clusterAt (rootsOf parents n) (planNetwork p .lowers)) (clusterAt (rootsOf parents n) (planNetwork p .uppers))
+
+  flag-computed : (l : ℕ) → l < linksOf (planNetwork p) → getD (laidFlags (planNetwork p) depth) l 0 ≡ computed l
   unfolding firstFlags
   flag-computed l h =
-      over-below (firstFlag (clusterAt (rootsOf parents n) (planNetwork p .lowers)) (clusterAt (rootsOf parents n) (planNetwork p .uppers))) (linksOf (planNetwork p)) (replicate 128 0) l 0 h (omega (arith, length-replicate {A = ℕ} 128 0))
+      over-below computed (linksOf (planNetwork p)) (replicate 128 0) l 0 h (omega (arith, length-replicate {A = ℕ} 128 0))
 
-  firsts : FirstLinks (planNetwork q)
-  firsts = first-links-exactly (planNetwork q) .1 flag-is
+  computed-is : (l : ℕ) → computed l ≡ firstFlagIn (planNetwork q) l
+  computed-is l = ap₂ (λ lower upper. firstFlag lower upper l) (fun-ext (at lowers-kept)) (fun-ext (at uppers-kept))
     where
-      flag-is : (l : ℕ) → l < linksOf (planNetwork q) → getD (planNetwork q .flags) l 0 ≡ firstFlag (λ k. clusterOf (planNetwork q) (getD (planNetwork q .lowers) k 0)) (λ k. clusterOf (planNetwork q) (getD (planNetwork q .uppers) k 0)) l
-      flag-is l h =
-          let b : l < length (p .links) = omega (arith, links-kept, all-links p K) in
-          flag-in-network q l (omega (arith, relaid-links parents flags p))
-          ∙ relaid-flag parents flags p l b
-          ∙ flag-computed l (omega (arith, links-kept))
-          ∙ ap₂ (λ lower upper. firstFlag lower upper l) (fun-ext lower-is) (fun-ext upper-is)
+      at : {ends ends′ : List ℕ} → ends ≡ ends′ → (k : ℕ) → clusterAt (rootsOf parents n) ends k ≡ clusterOf (planNetwork q) (getD ends′ k 0)
+      at {ends} e k = cluster-kept (getD ends k 0) ∙ ap (λ xs. clusterOf (planNetwork q) (getD xs k 0)) e
+
+  flag-is : (l : ℕ) → l < linksOf (planNetwork q) → getD (planNetwork q .flags) l 0 ≡ firstFlagIn (planNetwork q) l
+  flag-is l h =
+      let b : l < length (p .links) = omega (arith, links-kept, all-links p K) in
+      flag-in-network q l (omega (arith, relaid-links parents flags p))
+      ∙ relaid-flag parents flags p l b
+      ∙ flag-computed l (omega (arith, links-kept))
+      ∙ computed-is l
 
   -- it is p laid out
   pub laid-plan-so : LaidOut depth p (laidPlan depth p)
@@ -128,5 +132,5 @@ module _ (depth : ℕ) (p : Plan) (K : Keeps1to5 p) where
         claims = claims;
         claimed = claimed;
         parents = claimer;
-        preferred = firsts;
+        preferred = first-links-exactly (planNetwork q) .1 flag-is;
       }

@@ -130,7 +130,7 @@ flag-2-at-any-depth = refl
 
 -- the buffer afterwards: T at depth 1 is one cluster, at depth 0 two, and what stands behind the plan stays
 bufferFor : List ℕ → ℕ → List ℕ → List ℕ
-unfolding laidIn laidOver withFlags withParents withFields copied layoutOf listsOf listsFrom turn readAt recordAt bodyLength zeroNetwork roundsRule nodeRule followsOf rises linkRule endRule roundsAdded nodeAdded linkAdded firstUnjoined joinedMarks pass across follow withSets linkSet linkGives towards listBelow parentsOf claimAll step spread claimsAll claimsEach rooted nobody allNodes put foldBelow firstOf sumBelow countBelow ifB ifLt ifEq digit member inserted removed sizeOf lowestOf firstFlags firstFlag rootsOf rootAt rootFrom overBelow joins pairIs
+unfolding laidIn laidOver withFlags withParents withFields copied laidFor answerFor
 bufferFor s depth out = laidIn s depth out
 
 T-written-at-1 : bufferFor bytes-T 1 (replicate 20 7) ≡ two-nodes 0 0 (3 ∷ 0 ∷ 1 ∷ 0 ∷ []) ++ 7 ∷ 7 ∷ []

@@ -61,6 +61,21 @@ module _ {s : List ℕ} {depth : ℕ} {before : List ℕ} {n : ℕ} {after : Lis
         network = refl;
       })
 
+  -- only the plan's own bytes count
+  pub written-from : (t : List ℕ) → n ≤ length t → take n t ≡ take n s → Written t depth before n after
+  written-from t within e =
+      record {
+        plan = W .plan;
+        given = record { keeps = W .given .keeps; within = within; bytes = e ∙ W .given .bytes };
+        joined = W .joined;
+        shallow = W .shallow;
+        room = W .room;
+        laid-plan = W .laid-plan;
+        as-asked = W .as-asked;
+        bytes = W .bytes;
+        rest = W .rest;
+      }
+
 -- bytes that differ in parents and flags alone are laid out alike
 pub written-alike :
     {s t : List ℕ} {depth : ℕ} {before other : List ℕ} {n m : ℕ} {after after′ : List ℕ} (W : Written s depth before n after) (X : Written t depth other m after′)
