@@ -85,25 +85,30 @@ module _ (s : List ℕ) (depth : ℕ) (out : List ℕ) where
   accepted-writes (by-23 n p e _ H j d r) z = absurd (omega arith)
   accepted-writes (laid-out p e H j d r) z = joined-written H j d out r
 
+  -- how many bytes the plan takes
+  abbrev place : ℕ
+  place = layoutOf s depth (length out) .place
+
   module _ (small : Bytes s) (none : layoutOf s depth (length out) .number ≡ accepted) where
     -- an accepted layout writes the plan laid out by the rule ..
-    pub laid-so : Written s depth out (layoutOf s depth (length out) .place) (laidIn s depth out)
+    pub laid-so : Written s depth out place (laidIn s depth out)
     laid-so = accepted-writes (answer-told s depth (length out) small) none
 
     -- .. and "nothing past the plan"
-    pub laid-past : drop (layoutOf s depth (length out) .place) (laidIn s depth out) ≡ drop (layoutOf s depth (length out) .place) out
+    pub laid-past : drop place (laidIn s depth out) ≡ drop place out
     laid-past = laid-so .rest
 
     -- "what is written is always accepted"
-    pub laid-accepted : planOf (laidIn s depth out) ≡ acceptedWith (layoutOf s depth (length out) .place) (planNetwork (laid-so .laid-plan))
+    pub laid-accepted : planOf (laidIn s depth out) ≡ acceptedWith place (planNetwork (laid-so .laid-plan))
     laid-accepted = written-accepted laid-so
 
     -- bytes after kind 0 are neither read nor copied
-    pub rest-not-read : (t : List ℕ) → layoutOf s depth (length out) .place ≤ length t → take (layoutOf s depth (length out) .place) t ≡ take (layoutOf s depth (length out) .place) s → (layoutOf t depth (length out) ≡ layoutOf s depth (length out)) × (laidIn t depth out ≡ laidIn s depth out)
+    pub rest-not-read : (t : List ℕ) → place ≤ length t → take place t ≡ take place s → (layoutOf t depth (length out) ≡ layoutOf s depth (length out)) × (laidIn t depth out ≡ laidIn s depth out)
     rest-not-read t within e =
         let W = written-from laid-so t within e in
-        let n = layoutOf s depth (length out) .place in
-        (joined-answer (W .given) (W .joined) (W .shallow) out (W .room) ∙ (λ i. record { number = sym none i; place = n }), written-one (joined-written (W .given) (W .joined) (W .shallow) out (W .room)) W .1)
+        let answer = joined-answer (W .given) (W .joined) (W .shallow) out (W .room) in
+        let written = joined-written (W .given) (W .joined) (W .shallow) out (W .room) in
+        (answer ∙ (λ i. record { number = sym none i; place = place }), written-one written W .1)
 
 -- ---- what was written, laid out again to the same depth
 

@@ -42,7 +42,9 @@ root-within sets n depth p few h =
     omega (arith, root-in-table (parentsOf sets n depth) n p r few h x, leads-root (parentIn (parentsOf sets n depth)) n x .node)
 
 -- the clusters at the two ends of each link are nodes
-pub clusters-within : (s : List ℕ) (depth : ℕ) → Bytes s → listsOf s .number ≡ accepted → Clustered (rootsOf (laidParents (wiresOf s) depth) (nodesOf (wiresOf s))) (wiresOf s .lowers) (wiresOf s .uppers) (linksOf (wiresOf s))
+pub clusters-within :
+    (s : List ℕ) (depth : ℕ) → Bytes s → listsOf s .number ≡ accepted
+    → Clustered (rootsOf (laidParents (wiresOf s) depth) (nodesOf (wiresOf s))) (wiresOf s .lowers) (wiresOf s .uppers) (linksOf (wiresOf s))
 clusters-within s depth small none l h =
     let (a, b) = ends-within s small none l h in
     (within (getD (wiresOf s .lowers) l 0) a, within (getD (wiresOf s .uppers) l 0) b)
