@@ -1,5 +1,6 @@
 pub mod Begun
 pub mod Clauses
+pub mod Each
 pub mod Layouts
 pub mod Marks
 pub mod Puts

@@ -88,17 +88,26 @@ module _ {n : ℕ} {s : Claiming} (filled : Filled n s) (room : s .count < n) (x
         order-new = new-here;
         order-old = new-old;
         when-new = place-is new (m + 1) p m (omega arith) new-here (λ j l e. place-before old m p j (omega (arith, filled .marked p free)) (sym (new-old j l) ∙ e));
-        when-old = λ q i l. place-is new (m + 1) q (placeOf old m q) (omega arith) (new-old (placeOf old m q) l ∙ place-at old m q l) (λ j k e. place-before old m q j k (sym (new-old j (omega arith)) ∙ e));
-        when-later = λ q i l a. later q l a;
+        when-old = λ q _ l. earlier q l;
+        when-later = λ q _ l a. later q l a;
         by-new = getD-set-same (s .by) p x 0 (omega (arith, filled .by-length, member-below left p free));
         by-old = λ q a. getD-set-other (s .by) p q x 0 a;
         deep-new = getD-set-same (s .deep) p v 0 (omega (arith, filled .deep-length, member-below left p free));
         deep-old = λ q a. getD-set-other (s .deep) p q v 0 a;
       }
     where
+      earlier : (q : ℕ) → placeOf old m q < m → placeOf new (m + 1) q ≡ placeOf old m q
+      earlier q l =
+          place-is new (m + 1) q (placeOf old m q) (omega arith) (new-old (placeOf old m q) l ∙ place-at old m q l)
+          (λ j k e. place-before old m q j k (sym (new-old j (omega arith)) ∙ e))
+
       later : (q : ℕ) → m ≤ placeOf old m q → (q ≡ p → ⊥) → m < placeOf new (m + 1) q
-      later q l a =
-          omega (arith, place-none new (m + 1) q (λ j i. below-split (λ k. new k ≡ q → ⊥) m j (omega arith) (λ b e. place-before old m q j (omega arith) (sym (new-old j b) ∙ e)) (λ e. a (sym e ∙ new-here))))
+      later q l a = omega (arith, place-none new (m + 1) q nowhere)
+        where
+          nowhere : (j : ℕ) → j < m + 1 → new j ≡ q → ⊥
+          nowhere j i =
+              below-split (λ k. new k ≡ q → ⊥) m j (omega arith) (λ b e. place-before old m q j (omega arith) (sym (new-old j b) ∙ e))
+              (λ e. a (sym e ∙ new-here))
 
   pub put-filled : Filled n (put x p v s)
   unfolding put

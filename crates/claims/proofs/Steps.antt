@@ -12,14 +12,15 @@ use mathlib.Core.Bool.{Bool, true}
 use mathlib.Core.List.{List}
 use lib.ListN.{length, getD}
 use Rattle.laws.specs.Below.{foldBelow}
-use Rattle.laws.proofs.Choice.{lt-elim, eq-elim, true-not-false}
+use Rattle.laws.proofs.Choice.{lt-elim, true-not-false}
 use Rattle.laws.proofs.Entries.{repeated-at}
-use Rattle.nodeset.specs.Marks.{member, removed, sizeOf, lowestOf}
+use Rattle.nodeset.specs.Marks.{member, lowestOf}
 use Rattle.nodeset.proofs.Marks.{empty-has-none, lowest-is-in, lowest-below}
 use Rattle.claims.specs.declared.Claiming.{Claiming}
 use Rattle.claims.specs.Claimed.{MayClaim, MakesClaim, Turn, root, claim, ClaimedSo}
-use Rattle.claims.specs.Claiming.{put, allNodes, nobody, rooted, unclaimedOf, claimsEach, claimsAll, spread, step, claimAll, parentsOf, claimsOf, nearBy}
-use Rattle.claims.proofs.Marks.{in-both, in-first, in-second, lowest-least, lowest-common, lowest-second, one-fewer, all-in, all-below, all-fits}
+use Rattle.claims.specs.Claiming.{put, allNodes, nobody, rooted, unclaimedOf, claimsAll, spread, step, claimAll, parentsOf, claimsOf, nearBy}
+use Rattle.claims.proofs.Marks.{in-both, in-first, in-second, lowest-least, lowest-common, lowest-second, all-in, all-below, all-fits}
+use Rattle.claims.proofs.Each.{claims-keep, none-left}
 use Rattle.claims.proofs.Begun.{Begun, OneMore, Done, old-apart, done-more, begun-none, begun-more, begun-room, begun-full, begun-end}
 use Rattle.claims.proofs.Puts.{Filled, free-marked, put-more, put-filled}
 
@@ -159,20 +160,6 @@ module _ (sets : List ℕ) (n depth : ℕ) where
               lowest = λ q a. lowest-least (to-claim x s) q (to-claim-of (g .before .filled) a);
             }
 
-  fewer : (neighbours : ℕ) {s : Claiming} → Filled n s → (unclaimedOf neighbours s ≡ 0 → ⊥) → sizeOf (s .unclaimed .marks) ≡ suc (sizeOf (removed (s .unclaimed .marks) (lowestOf (unclaimedOf neighbours s))))
-  fewer neighbours {s} filled some = one-fewer neighbours (s .unclaimed .marks) (filled .marks-fit) some
-
-  -- as many turns as there are unclaimed nodes leave x nobody to claim
-  claimed-each : (turns : ℕ) {i x v : ℕ} (s : Claiming) → v < depth → sizeOf (s .unclaimed .marks) ≤ turns → WithinStep i x v s → WithinStep i x v (claimsEach turns (getD sets x 0) x (v + 1) s) × (to-claim x (claimsEach turns (getD sets x 0) x (v + 1) s) ≡ 0)
-  unfolding claimsEach put
-  claimed-each zero {i} {x} s above enough g =
-      let some : 0 < to-claim x s → ⊥ = λ h. omega (arith, fewer (getD sets x 0) (g .before .filled) (λ e. omega arith)) in
-      (g, omega arith)
-  claimed-each (suc turns) {i} {x} {v} s above enough g =
-      eq-elim (λ r. WithinStep i x v r × (to-claim x r ≡ 0)) (to-claim x s) 0 s (claimsEach turns (getD sets x 0) x (v + 1) (put x (lowestOf (to-claim x s)) (v + 1) s))
-      (λ e. (g, e))
-      (λ some. claimed-each turns (put x (lowestOf (to-claim x s)) (v + 1) s) above (omega (arith, fewer (getD sets x 0) (g .before .filled) some)) (claim-one above g some))
-
   -- x has nobody left to claim: on to the next
   spread-done : {i x : ℕ} {s : Claiming} → BeforeStep i s → i < s .count → getD (s .order) i 0 ≡ x → ((q : ℕ) → MayNow s x q → ⊥) → BeforeStep (suc i) s
   spread-done {i} {x} {s} t l e nobody = record { begun = t .begun; filled = t .filled; done = done; reached = l }
@@ -187,10 +174,9 @@ module _ (sets : List ℕ) (n depth : ℕ) where
           at (no d) = omega (arith, t .done y q a)
 
   spread-kept : (i : ℕ) (s : Claiming) → BeforeStep i s → i < s .count → BeforeStep (suc i) (spread sets depth (getD (s .order) i 0) s)
-  unfolding spread claimsAll
+  unfolding spread
   spread-kept i s t l =
-      lt-elim (λ r. BeforeStep (suc i) r) v depth (claimsEach (sizeOf (s .unclaimed .marks)) (getD sets x 0) x (v + 1) s) s
-      (λ above. let (g, none) = claimed-each (sizeOf (s .unclaimed .marks)) s above (omega arith) (record { before = t; there = l; node = refl; as-deep = refl }) in spread-done (g .before) (g .there) (g .node) (λ q a. true-not-false _ (to-claim-of (g .before .filled) a) (ap (λ m. member m q) none ∙ empty-has-none q)))
+      lt-elim (λ r. BeforeStep (suc i) r) v depth (claimsAll (getD sets x 0) x (v + 1) s) s all-claimed
       (λ deep. spread-done t l refl (λ q a. omega (arith, a .above)))
     where
       x : ℕ
@@ -198,6 +184,13 @@ module _ (sets : List ℕ) (n depth : ℕ) where
 
       v : ℕ
       v = getD (s .deep) x 0
+
+      all-claimed : v < depth → BeforeStep (suc i) (claimsAll (getD sets x 0) x (v + 1) s)
+      all-claimed above =
+          let within : WithinStep i x v s = record { before = t; there = l; node = refl; as-deep = refl } in
+          let g = claims-keep (getD sets x 0) x (v + 1) (WithinStep i x v) (λ r some g. claim-one above g some) s within in
+          let none = none-left (getD sets x 0) x (v + 1) s (t .filled .marks-fit) in
+          spread-done (g .before) (g .there) (g .node) (λ q a. true-not-false _ (to-claim-of (g .before .filled) a) (ap (λ m. member m q) none ∙ empty-has-none q))
 
   -- ---- all steps
 

@@ -2,17 +2,17 @@
 -- come to. Each turn takes one node from the unclaimed, so there is room for it.
 -- Assumes nothing.
 use borrow.Author.Needs.{needs}
-use Prim.Native.Nat.{ℕ, suc, _<_}
+use Prim.Native.Nat.{ℕ, _<_}
 use native.Mathlib.Omega.{arith}
 use mathlib.Core.Path.{_≡_, refl, sym, _∙_, ap, subst}
-use mathlib.Core.Bool.{true}
-use Rattle.nodeset.specs.Marks.{member, removed, sizeOf, lowestOf}
+use Rattle.nodeset.specs.Marks.{sizeOf, lowestOf}
 use Rattle.nodeset.proofs.Marks.{member-below}
 use Rattle.claims.specs.declared.Claiming.{Claiming}
 use Rattle.claims.specs.Claiming.{put, unclaimedOf, claimsAll}
 use Rattle.claims.specs.Sound.{Sound}
-use Rattle.claims.proofs.Marks.{lowest-second, one-fewer}
-use Rattle.claims.proofs.Sound.{put-sound, claims-on, claims-end}
+use Rattle.claims.proofs.Marks.{lowest-second}
+use Rattle.claims.proofs.Each.{next, SomeLeft, next-fewer, claims-on, claims-end}
+use Rattle.claims.proofs.Sound.{SoundAs, next-sound}
 use Rattle.claims.proofs.claim_each.Statement.{statement}
 use Rattle.claims.proofs.claim_each.Tie as tie
 
@@ -43,38 +43,39 @@ module _ (c : tie.After-lowest Inv-loop μ-loop) where
   abbrev sound : Sound claims
   sound = c .before .before .loop .inv .0
 
-  some : unclaimedOf neighbours claims ≡ 0 → ⊥
+  some : SomeLeft neighbours x deep claims
   some e = omega (arith, c .before .loop-test .taken, c .before .before .loop .inv .1)
 
-  next : c .lowest .result ≡ lowestOf (unclaimedOf neighbours claims)
-  next = c .lowest .ensures ∙ ap lowestOf (c .before .before .loop .inv .1)
-
-  free : member (claims .unclaimed .marks) (lowestOf (unclaimedOf neighbours claims)) ≡ true
-  free = lowest-second neighbours (claims .unclaimed .marks) (sound .marks-fit) some
-
-  fewer : sizeOf (claims .unclaimed .marks) ≡ suc (sizeOf (removed (claims .unclaimed .marks) (lowestOf (unclaimedOf neighbours claims))))
-  fewer = one-fewer neighbours (claims .unclaimed .marks) (sound .marks-fit) some
+  lowest : c .lowest .result ≡ lowestOf (unclaimedOf neighbours claims)
+  lowest = c .lowest .ensures ∙ ap lowestOf (c .before .before .loop .inv .1)
 
   node : c .lowest .result < 64
-  node = omega (arith, next, member-below _ _ free)
+  node = omega (arith, lowest, member-below _ _ (lowest-second neighbours (claims .unclaimed .marks) (sound .marks-fit) some))
+
+  after : SoundAs claims (next neighbours x deep claims)
+  after = next-sound neighbours x deep sound some
 
 cast-next : tie.Need-cast-next Inv-loop μ-loop
 cast-next c = omega (arith, node c)
 
 put-requires : tie.Need-put-requires Inv-loop μ-loop
-put-requires c κs = (omega (arith, fewer c, sound c .few), node c)
+unfolding put
+put-requires c κs = (omega (arith, after c .sound .few), node c)
 
-turn : (c : tie.After-put Inv-loop μ-loop) → c .put .result ≡ put (x (c .before)) (lowestOf (unclaimedOf (neighbours (c .before)) (claims (c .before)))) (deep (c .before)) (claims (c .before))
-turn c = c .put .ensures ∙ ap (λ q. put (x (c .before)) q (deep (c .before)) (claims (c .before))) (next (c .before))
+turn : (c : tie.After-put Inv-loop μ-loop) → c .put .result ≡ next (neighbours (c .before)) (x (c .before)) (deep (c .before)) (claims (c .before))
+turn c = c .put .ensures ∙ ap (λ q. put (x (c .before)) q (deep (c .before)) (claims (c .before))) (lowest (c .before))
 
 loop-less : tie.Need-loop-less Inv-loop μ-loop
-unfolding put
-loop-less c = omega (arith, fewer (c .before .before), ap (λ (r : Claiming). sizeOf (r .unclaimed .marks)) (turn (c .before)))
+loop-less c =
+    let t = c .before .before in
+    omega (arith, next-fewer (neighbours t) (x t) (deep t) (claims t) (sound t .marks-fit) (some t), ap (λ (r : Claiming). sizeOf (r .unclaimed .marks)) (turn (c .before)))
 
 loop-again : tie.Need-loop-again Inv-loop μ-loop
 loop-again c =
     let t = c .before .before in
-    (subst Sound (sym (turn (c .before))) (put-sound (sound t) (x t) _ (deep t) (free t) .sound), refl, ap (claimsAll (neighbours t) (x t) (deep t)) (turn (c .before)) ∙ sym (claims-on (neighbours t) (x t) (deep t) (claims t) (sound t) (some t)) ∙ t .before .before .loop .inv .2)
+    let all = claimsAll (neighbours t) (x t) (deep t) in
+    let on : all (claims t) ≡ all (next (neighbours t) (x t) (deep t) (claims t)) = claims-on (neighbours t) (x t) (deep t) (claims t) (sound t .marks-fit) (some t) in
+    (subst Sound (sym (turn (c .before))) (after t .sound), refl, ap all (turn (c .before)) ∙ sym on ∙ t .before .before .loop .inv .2)
 
 returns : tie.Need-returns Inv-loop μ-loop
 returns c =

@@ -24,7 +24,8 @@ loop-holds : tie.Need-loop-holds Inv-loop μ-loop
 loop-holds c =
     let count = c .before .at-most .result in
     let few : count ≤ 64 = omega (arith, c .before .at-most .ensures) in
-    (search needs, subst Sound (sym (c .nobody .ensures)) (nobody-sound count few), ap nodesOf (c .nobody .ensures) ∙ nobody-nodes count few, c .nobody .ensures ∙ sym (fold-start (step _ _) (nobody count)))
+    let nobody-yet = c .nobody .ensures in
+    (search needs, subst Sound (sym nobody-yet) (nobody-sound count few), ap nodesOf nobody-yet ∙ nobody-nodes count few, nobody-yet ∙ sym (fold-start (step _ _) (nobody count)))
 
 step-requires : tie.Need-step-requires Inv-loop μ-loop
 step-requires c κs =
@@ -37,8 +38,11 @@ loop-again c =
     let (within, sound, all, done) = at-loop .loop .inv in
     let args = at-loop .before .before .before .args in
     let i = at-loop .loop .i in
+    let next = step (args .sets .now) (args .depth) in
+    let stepped : c .step .result ≡ next i (at-loop .loop .claims) = c .step .ensures in
     let kept = step-sound (args .sets .now) (args .depth) sound i (omega (arith, all, c .before .loop-test .taken)) in
-    (search needs, subst Sound (sym (c .step .ensures)) (kept .sound), ap nodesOf (c .step .ensures) ∙ kept .same ∙ all, c .step .ensures ∙ ap (step (args .sets .now) (args .depth) i) done ∙ sym (fold-more (step (args .sets .now) (args .depth)) (nobody (at-loop .before .before .at-most .result)) i))
+    let more = stepped ∙ ap (next i) done ∙ sym (fold-more next (nobody (at-loop .before .before .at-most .result)) i) in
+    (search needs, subst Sound (sym stepped) (kept .sound), ap nodesOf stepped ∙ kept .same ∙ all, more)
 
 returns : tie.Need-returns Inv-loop μ-loop
 unfolding parentsOf claimAll
