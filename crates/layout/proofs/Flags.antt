@@ -1,7 +1,7 @@
 -- The flags in one pass. After l links the table has, for each cluster, exactly those that one of these links joins to it; so the next link is the
 -- first between its two clusters exactly if these have not met.
 -- Assumes nothing.
-use Prim.Native.Nat.{ℕ, _+_, _<_, _≤_}
+use Prim.Native.Nat.{ℕ, _+_, _<_}
 use native.Mathlib.Nat.{not-suc-le-zero}
 use native.Mathlib.Omega.{arith}
 use native.Mathlib.Decide.{decLt, ℕ-discrete}
@@ -20,7 +20,7 @@ use Rattle.nodeset.proofs.Marks.{empty-has-none, inserted-is-in}
 use Rattle.network.specs.Sets.{added, towards}
 use Rattle.network.proofs.Tables.{length-added, added-at}
 use Rattle.links.specs.Links.{joins, SamePair, straight, crossed}
-use Rattle.links.proofs.Links.{joins-pair, pair-joins, pair-sym}
+use Rattle.links.proofs.Links.{joins-pair, pair-joins}
 use Rattle.joined.proofs.Folds.{inserted-keeps, in-inserted}
 use Rattle.layout.specs.FirstLinks.{firstFlag}
 use Rattle.layout.specs.Layout.{flagBy, metWith}

@@ -79,14 +79,15 @@ fn first_flags(roots: &[u8; 64], lowers: &[u8; 128], uppers: &[u8; 128], links: 
     flags
 }
 
+// The plan's bytes as they are.
 fn copy(bytes: &[u8], count: usize, out: &mut [u8])
     requires { ⌜ (count ≤ length (now bytes)) × (count ≤ length (now out)) ⌝ }
     ensures { λ _. ⌜ now (out .exit) ≡ copied (now (bytes .entry)) count (now (out .entry)) ⌝ }
 {
-    let mut k = 0;
-    while k < count {
-        out[k] = bytes[k];
-        k += 1;
+    let mut at = 0;
+    while at < count {
+        out[at] = bytes[at];
+        at += 1;
     }
 }
 
