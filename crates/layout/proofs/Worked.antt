@@ -1,7 +1,7 @@
 -- Worked layouts, computed on the definitions: parents and flags from the wire list alone, and plan T's bytes with the answers at each limit.
 -- Assumes nothing.
-use Prim.Native.Nat.{ℕ}
-use mathlib.Core.Path.{_≡_, refl}
+use Prim.Native.Nat.{ℕ, zero, suc}
+use mathlib.Core.Path.{_≡_, refl, ap}
 use mathlib.Core.List.{List, [], _∷_, _++_}
 use lib.ListN.{length, take, replicate}
 use Rattle.laws.specs.Choice.{ifB, ifLt, ifEq}
@@ -127,6 +127,62 @@ no-link-at-any-depth = refl
 flag-2-at-any-depth : answerFor (two-nodes 0 1 (3 ∷ 0 ∷ 1 ∷ 2 ∷ [])) 64 0 ≡ (5, 13)
 unfolding answerFor
 flag-2-at-any-depth = refl
+
+-- 1 to 4 as the plan reader: no kind 9, a body cut short, nothing at all, the 65th node
+no-kind-9 : answerFor (9 ∷ []) 0 0 ≡ (1, 0)
+unfolding answerFor
+no-kind-9 = refl
+
+rounds-cut-short : answerFor (1 ∷ 0 ∷ []) 0 0 ≡ (2, 0)
+unfolding answerFor
+rounds-cut-short = refl
+
+no-plan : answerFor [] 0 0 ≡ (3, 0)
+unfolding answerFor
+no-plan = refl
+
+-- n nodes from k on
+roots : ℕ → ℕ → List ℕ
+roots zero k = []
+roots (suc n) k = 2 ∷ k ∷ k ∷ 0 ∷ 0 ∷ roots n (suc k)
+
+nodes-65 : answerFor (1 ∷ 0 ∷ 1 ∷ roots 65 0) 0 0 ≡ (4, 323)
+unfolding answerFor roots
+nodes-65 = refl
+
+-- a layout answers this number
+abbrev pub Comes : ℕ → Type 0
+Comes k = (s : List ℕ) × (depth : ℕ) × (room : ℕ) × (layoutOf s depth room .number ≡ k)
+
+comes : (s : List ℕ) (depth room k w : ℕ) → answerFor s depth room ≡ (k, w) → Comes k
+unfolding answerFor
+comes s depth room k w e = (s, depth, room, ap (λ (x : ℕ × ℕ). x .0) e)
+
+-- each number of a layout comes back for some bytes, depth and buffer
+pub record EachComes : Type 0 where
+  pub laid-out : Comes 0
+  pub unknown : Comes 1
+  pub cut-short : Comes 2
+  pub out-of-order : Comes 3
+  pub too-many : Comes 4
+  pub out-of-range : Comes 5
+  pub unjoined : Comes 10
+  pub too-deep : Comes 22
+  pub no-room : Comes 23
+
+pub each-comes : EachComes
+each-comes =
+    record {
+      laid-out = comes bytes-T 63 18 0 18 T-is-laid-out;
+      unknown = comes (9 ∷ []) 0 0 1 0 no-kind-9;
+      cut-short = comes (1 ∷ 0 ∷ []) 0 0 2 0 rounds-cut-short;
+      out-of-order = comes [] 0 0 3 0 no-plan;
+      too-many = comes (1 ∷ 0 ∷ 1 ∷ roots 65 0) 0 0 4 323 nodes-65;
+      out-of-range = comes (two-nodes 0 1 (3 ∷ 0 ∷ 1 ∷ 2 ∷ [])) 64 0 5 13 flag-2-at-any-depth;
+      unjoined = comes (two-nodes 0 1 []) 64 0 10 1 no-link-at-any-depth;
+      too-deep = comes bytes-T 64 18 22 0 T-too-deep;
+      no-room = comes bytes-T 63 17 23 0 T-has-no-room;
+    }
 
 -- the buffer afterwards: T at depth 1 is one cluster, at depth 0 two, and what stands behind the plan stays
 bufferFor : List ℕ → ℕ → List ℕ → List ℕ
