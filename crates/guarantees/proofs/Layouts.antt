@@ -1,33 +1,28 @@
--- W4: the promise of a layout over the contracts of its entry points, as the checker generates them; its numbers, no more and no fewer; and what
--- follows of the plan that is written: the plan reader accepts it, no node is deeper than asked, and demand 3 holds of it.
+-- W4: the promise of a layout over the contracts of its entry points, as the checker generates them; and its numbers, no more and no fewer.
 -- Assumes nothing.
-use Prim.Native.Nat.{ℕ, suc, _<_, _≤_}
+use Prim.Native.Nat.{ℕ}
 use native.Mathlib.Omega.{arith}
-use mathlib.Core.Path.{_≡_, refl, sym, _∙_, ap, subst}
-use mathlib.Core.Logic.{_⊎_, inl, inr}
-use mathlib.Core.List.{List, [], _∷_}
-use lib.ListN.{length, getD}
+use mathlib.Core.Path.{_≡_, refl, sym, subst}
+use mathlib.Core.Logic.{inl, inr}
+use mathlib.Core.List.{List}
+use lib.ListN.{length}
+use contract.Lifetimes.{Lfts}
 use denote.Ref.{now}
+use denote.Triple.Clauses.{AtExit}
+use borrow.Fn.Kinds.{Dens, resT, endedOf}
 use Rattle.records.specs.Keeps.{Bytes, BreaksAt, bytes-end, unknown, short, whole, BreaksFirst, order, number, range}
 use Rattle.records.specs.Plan.{Plan}
 use Rattle.records.specs.declared.Record.{Record}
-use Rattle.records.specs.Reader.{acceptedWith}
-use Rattle.plan.specs.Accepted.{planNetwork}
-use Rattle.plan.specs.Checks.{planOf}
 use Rattle.layout.specs.declared.Laid.{Laid}
-use Rattle.layout.specs.Answers.{LayoutAnswer, by-record, by-10, by-22, by-23, laid-out, Written}
-use Rattle.layout.specs.Layout.{laid, layoutOf, laidIn}
+use Rattle.layout.specs.Answers.{LayoutAnswer, by-record, by-10, by-22, by-23, laid-out}
+use Rattle.layout.specs.Layout.{layoutOf, laidIn}
 use Rattle.layout.proofs.Answers.{layout-exactly}
 use Rattle.layout.proofs.Buffer.{laid-refused, laid-so}
-use Rattle.layout.proofs.Written.{written-accepted}
 use Rattle.layout.proofs.Worked.{Comes, each-comes}
 use Rattle.layout.proofs.layout.Kinds as layout-kinds
 use Rattle.layout.proofs.layout.Reads as layout-reads
 use Rattle.guarantees.specs.Among.{Among}
 use Rattle.guarantees.specs.Promise_W4.{LayoutPromise, layoutNumbers}
-use Rattle.guarantees.specs.Steps.{Step, finished}
-use Rattle.guarantees.proofs.Demand as demand
-use Rattle.guarantees.proofs.Unique.{OneEnd}
 
 -- ---- the promise
 
@@ -43,12 +38,18 @@ module _ (s : List ℕ) (small : Bytes s) (depth : ℕ) (out : List ℕ) where
         written = laid-so s depth out small;
       }
 
-pub layout-promise :
+layout-promise :
     (s : List ℕ) (depth : ℕ) (out : List ℕ) (r : Laid) (after : List ℕ) → r ≡ layoutOf s depth (length out) → after ≡ laidIn s depth out → Bytes s
     → LayoutPromise s depth out (r .number) (r .place) after
 layout-promise s depth out r after e f small =
     subst (λ xs. LayoutPromise s depth out (r .number) (r .place) xs) (sym f)
     (subst (λ (x : Laid). LayoutPromise s depth out (x .number) (x .place) (laidIn s depth out)) (sym e) (layout-promised s small depth out))
+
+pub layout :
+    (κs : Lfts 2) (a : Dens κs layout-kinds.ps) (x : resT layout-kinds.r κs .Denot) (t : AtExit (endedOf 2 layout-kinds.ps layout-kinds.r) κs)
+    → layout-reads.Post κs a x t
+    → LayoutPromise (now (a .0)) (a .1 .0) (now (a .1 .1 .0)) (x .number) (x .place) (now (t .1 .1 .0))
+layout κs a x t p = layout-promise (now (a .0)) (a .1 .0) (now (a .1 .1 .0)) x (now (t .1 .1 .0)) (p .0) (p .1 .0) (p .1 .1)
 
 -- ---- its numbers
 
@@ -81,8 +82,3 @@ layout-comes k (inr (inr (inr (inr (inr (inl e)))))) = subst Comes (sym e) (each
 layout-comes k (inr (inr (inr (inr (inr (inr (inl e))))))) = subst Comes (sym e) (each-comes .unjoined)
 layout-comes k (inr (inr (inr (inr (inr (inr (inr (inl e)))))))) = subst Comes (sym e) (each-comes .too-deep)
 layout-comes k (inr (inr (inr (inr (inr (inr (inr (inr (inl e))))))))) = subst Comes (sym e) (each-comes .no-room)
-
--- ---- one result
-
-pub layout-one : OneEnd _ layout-kinds.ps layout-kinds.r layout-reads.Post (λ κs s. now (s .1 .1 .0))
-layout-one κs a x y s t p q = (p .0 ∙ sym (q .0), p .1 .0 ∙ sym (q .1 .0))

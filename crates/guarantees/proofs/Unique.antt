@@ -53,10 +53,18 @@ use Rattle.clusters.proofs.first_inside.Kinds as clusters-first-inside-kinds
 use Rattle.clusters.proofs.first_inside.Reads as clusters-first-inside-reads
 use Rattle.clusters.proofs.first_not_one.Kinds as clusters-first-not-one-kinds
 use Rattle.clusters.proofs.first_not_one.Reads as clusters-first-not-one-reads
+use Rattle.clusters.proofs.root_table.Kinds as clusters-root-table-kinds
+use Rattle.clusters.proofs.root_table.Reads as clusters-root-table-reads
+use Rattle.clusters.proofs.root_at.Kinds as clusters-root-at-kinds
+use Rattle.clusters.proofs.root_at.Reads as clusters-root-at-reads
 use Rattle.clusters.proofs.count.Kinds as clusters-count-kinds
 use Rattle.clusters.proofs.count.Reads as clusters-count-reads
 use Rattle.joined.proofs.first_unjoined.Kinds as joined-first-unjoined-kinds
 use Rattle.joined.proofs.first_unjoined.Reads as joined-first-unjoined-reads
+use Rattle.claims.proofs.parents.Kinds as claims-parents-kinds
+use Rattle.claims.proofs.parents.Reads as claims-parents-reads
+use Rattle.layout.proofs.layout.Kinds as layout-layout-kinds
+use Rattle.layout.proofs.layout.Reads as layout-layout-reads
 use Rattle.plan.proofs.read_plan.Kinds as plan-read-plan-kinds
 use Rattle.plan.proofs.read_plan.Reads as plan-read-plan-reads
 use Rattle.lockstep.proofs.mean.Kinds as lockstep-mean-kinds
@@ -258,6 +266,12 @@ clusters-first-inside-one κs a x y s t p q = same p q
 pub clusters-first-not-one-one : OneResult _ clusters-first-not-one-kinds.ps clusters-first-not-one-kinds.r clusters-first-not-one-reads.Post
 clusters-first-not-one-one κs a x y s t p q = same p q
 
+pub clusters-root-table-one : OneResult _ clusters-root-table-kinds.ps clusters-root-table-kinds.r clusters-root-table-reads.Post
+clusters-root-table-one κs a x y s t p q = same p q
+
+pub clusters-root-at-one : OneResult _ clusters-root-at-kinds.ps clusters-root-at-kinds.r clusters-root-at-reads.Post
+clusters-root-at-one κs a x y s t p q = same p q
+
 pub clusters-count-one : OneResult _ clusters-count-kinds.ps clusters-count-kinds.r clusters-count-reads.Post
 clusters-count-one κs a x y s t p q = same p q
 
@@ -265,6 +279,14 @@ clusters-count-one κs a x y s t p q = same p q
 
 pub joined-first-unjoined-one : OneResult _ joined-first-unjoined-kinds.ps joined-first-unjoined-kinds.r joined-first-unjoined-reads.Post
 joined-first-unjoined-one κs a x y s t p q = same p q
+
+-- ---- claims, layout
+
+pub claims-parents-one : OneResult _ claims-parents-kinds.ps claims-parents-kinds.r claims-parents-reads.Post
+claims-parents-one κs a x y s t p q = same p q
+
+pub layout-layout-one : OneEnd _ layout-layout-kinds.ps layout-layout-kinds.r layout-layout-reads.Post (λ κs s. now (s .1 .1 .0))
+layout-layout-one κs a x y s t p q = (same (p .0) (q .0), same (p .1 .0) (q .1 .0))
 
 -- ---- plan
 
