@@ -26,7 +26,7 @@ pub const PAGE: usize = 2048;
 pub const LINE: usize = 46;
 
 // The whole text at the buffer's start, and how many bytes it has; or, in a buffer that is too short for the whole text, nothing, and 0.
-fn whole(out: &mut [u8], bytes: &[u8]) -> usize
+pub fn whole(out: &mut [u8], bytes: &[u8]) -> usize
     ensures count { λ r. ⌜ r ≡ writtenIn (length (now (out .entry))) (now (bytes .entry)) ⌝ }
     ensures held { λ _. ⌜ now (out .exit) ≡ filledBy (now (out .entry)) (now (bytes .entry)) ⌝ }
 {
