@@ -3,7 +3,7 @@
 -- Assumes nothing.
 use Prim.Native.Nat.{ℕ, _≤_}
 use native.Mathlib.Omega.{arith}
-use mathlib.Core.Path.{_≡_, refl, sym, _∙_, ap}
+use mathlib.Core.Path.{_≡_, refl, sym, _∙_, ap, ap₂}
 use mathlib.Core.List.{List, [], _++_}
 use lib.ListN.{length, take, drop}
 use lib.Seq.{take-at}
@@ -11,7 +11,7 @@ use Rattle.laws.proofs.Choice.{ifLt-no}
 use Rattle.report.specs.Report.{writtenIn, filledBy}
 use Rattle.report.proofs.Printed.{written-within, filled-length}
 use Rattle.commands.specs.declared.Printed.{Printed}
-use Rattle.commands.specs.Streams.{Streams, Prints}
+use Rattle.commands.specs.Streams.{Streams, Fits, Prints}
 
 module _ {s : Streams} {output errors : List ℕ} where
   pub prints-unique :
@@ -35,10 +35,18 @@ module _ (out : List ℕ) where
   unfolding filledBy
   nothing-filled = sym (ifLt-no (length out) 0 out out (omega arith))
 
-  -- a text that has room is what the count tells of the buffer
-  pub whole-there : (text : List ℕ) → length text ≤ length out → take (writtenIn (length out) text) (filledBy out text) ≡ text
+  -- the bytes that are counted of a buffer with room for the text are the text
+  counted : (text : List ℕ) → length text ≤ length out → take (writtenIn (length out) text) (filledBy out text) ≡ text
   unfolding writtenIn filledBy
-  whole-there text h =
-      let count = ifLt-no (length out) (length text) 0 (length text) h in
-      let held = ifLt-no (length out) (length text) out (text ++ drop (length text) out) h in
-      rw (count, held) (take-at text (drop (length text) out) (length text) refl)
+  counted text h =
+      rw (ifLt-no (length out) (length text) 0 (length text) h, ifLt-no (length out) (length text) out (text ++ drop (length text) out) h)
+      (take-at text (drop (length text) out) (length text) refl)
+
+-- what the program writes, by the counts, of buffers that are long enough: the two streams
+pub streams-whole :
+    {s : Streams} {output errors o e : List ℕ} {x : Printed} → Prints s output errors x o e → Fits (length output) (length errors) s
+    → (take (x .output) o ≡ s .output) × (take (x .errors) e ≡ s .errors)
+streams-whole {s} {output} {errors} p f = (
+  ap₂ (λ n xs. take n xs) (ap (λ r. r .output) (p .counts)) (p .on-output) ∙ counted output (s .output) (f .output-fits),
+  ap₂ (λ n xs. take n xs) (ap (λ r. r .errors) (p .counts)) (p .on-errors) ∙ counted errors (s .errors) (f .errors-fit),
+)

@@ -1,11 +1,10 @@
 -- What the words of `desk` print, as a function of the bytes on standard input and the arguments.
 -- Assumes nothing.
-use Prim.Native.Nat.{ℕ}
+use Prim.Native.Nat.{ℕ, _≤_}
 use mathlib.Core.Path.{_≡_}
 use mathlib.Core.List.{List, []}
 use lib.ListN.{length, take}
 use Rattle.laws.specs.Choice.{ifLt, ifEq}
-use Rattle.records.specs.Reader.{listsOf}
 use Rattle.layout.specs.declared.Laid.{Laid}
 use Rattle.layout.specs.Layout.{layoutOf, laidIn}
 use Rattle.report.specs.Lines.{endLine}
@@ -20,6 +19,11 @@ pub record Streams : Type 0 where
 abbrev pub streams : List ℕ → List ℕ → Streams
 streams output errors = record { output = output; errors = errors }
 
+-- buffers of so many bytes are long enough
+pub record Fits (output errors : ℕ) (s : Streams) : Type 0 where
+  pub output-fits : length (s .output) ≤ output
+  pub errors-fit : length (s .errors) ≤ errors
+
 -- what a word's call promises of the two lent buffers: each holds its stream at its start, whole, or is as before where it has no room for the
 -- whole; and the answer counts the bytes of each
 pub record Prints (s : Streams) (output errors : List ℕ) (answer : Printed) (outputAfter errorsAfter : List ℕ) : Type 0 where
@@ -33,15 +37,12 @@ refusedWith number place = streams [] (endLine number place)
 
 -- ---- desk layout DEPTH
 
--- the plan with its clusters laid out, over its own bytes
-unfoldable pub laidPlan : List ℕ → ℕ → List ℕ
-laidPlan s depth = laidIn s depth (take (listsOf s .place) s)
-
+-- the plan is laid out over the bytes themselves, where it has room, and its own bytes are printed
 unfoldable pub laidStreams : List ℕ → ℕ → Laid → Streams
 laidStreams s depth laid =
-    ifEq (laid .number) 0 (streams (laidPlan s depth) []) (refusedWith (laid .number) (laid .place))
+    ifEq (laid .number) 0 (streams (take (laid .place) (laidIn s depth s)) []) (refusedWith (laid .number) (laid .place))
 
--- "program only: input longer than 65,536 bytes"; else as it is laid out where there is just room for the plan
+-- "program only: input longer than 65,536 bytes", before any look at the plan
 unfoldable pub layoutStreams : List ℕ → ℕ → Streams
 layoutStreams s depth =
-    ifLt 65536 (length s) (refusedWith 19 65536) (laidStreams s depth (layoutOf s depth (listsOf s .place)))
+    ifLt 65536 (length s) (refusedWith 19 65536) (laidStreams s depth (layoutOf s depth (length s)))

@@ -3,6 +3,7 @@ use libc::STDIN_FILENO;
 ghost use mathlib.Core.Path.{_≡_};
 ghost use Prim.Native.Nat.{_+_, _≤_};
 ghost use lib.ListN.{length};
+ghost use Rattle.io.specs.Counts.{Counts};
 ghost use Rattle.input.specs.Number.{withDigit, numberOf};
 
 // How many bytes came, and whether a read failed.
@@ -31,7 +32,7 @@ fn read_more(buffer: &mut [u8], have: usize) -> Input
 
 // Reads standard input on until the buffer is full, the input ends or a read fails: one read may bring fewer bytes than there are.
 pub fn read_all(buffer: &mut [u8]) -> Input
-    ensures { λ r. ⌜ r .count ≤ length (now (buffer .entry)) ⌝ }
+    ensures { λ r. ⌜ Counts (r .count) (now (buffer .exit)) ⌝ }
 {
     let mut have = 0;
     while have < buffer.len() {

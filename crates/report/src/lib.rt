@@ -40,6 +40,7 @@ pub fn whole(out: &mut [u8], bytes: &[u8]) -> usize
 pub fn end_only(out: &mut [u8], number: u8, place: usize) -> usize
     ensures count { λ r. ⌜ r ≡ writtenIn (length (now (out .entry))) (endLine number place) ⌝ }
     ensures held { λ _. ⌜ now (out .exit) ≡ filledBy (now (out .entry)) (endLine number place) ⌝ }
+    ensures at_most { λ _. ⌜ length (endLine number place) ≤ 46 ⌝ }
 {
     let mut line = [0u8; LINE];
     let count = end_line(&mut line, 0, number, place);

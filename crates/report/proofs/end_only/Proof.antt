@@ -22,7 +22,8 @@ returns c =
     let wrote = handed .before .before .before .before in
     let start = wrote .before .before .before in
     let short = end-short (start .args .number) (start .args .place) (omega (arith, start .fits .number)) (omega (arith, start .fits .place)) in
-    rw (stands-there (wrote .end-line .ensures) short) at (handed .whole .ensures)
+    let shown = rw (stands-there (wrote .end-line .ensures) short) at (handed .whole .ensures) in
+    (shown .0, (shown .1, short))
 
 pub end-only-spec : {M : Type 1} → statement M
 end-only-spec =
