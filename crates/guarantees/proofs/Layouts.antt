@@ -21,6 +21,8 @@ use Rattle.layout.proofs.Buffer.{laid-refused, laid-so}
 use Rattle.layout.proofs.Worked.{Comes, each-comes}
 use Rattle.layout.proofs.layout.Kinds as layout-kinds
 use Rattle.layout.proofs.layout.Reads as layout-reads
+use Rattle.teravulk.proofs.teravulk_layout.Kinds as teravulk-layout-kinds
+use Rattle.teravulk.proofs.teravulk_layout.Reads as teravulk-layout-reads
 use Rattle.guarantees.specs.Among.{Among}
 use Rattle.guarantees.specs.Promise_W4.{LayoutPromise, layoutNumbers}
 
@@ -50,6 +52,14 @@ pub layout :
     → layout-reads.Post κs a x t
     → LayoutPromise (now (a .0)) (a .1 .0) (now (a .1 .1 .0)) (x .number) (x .place) (now (t .1 .1 .0))
 layout κs a x t p = layout-promise (now (a .0)) (a .1 .0) (now (a .1 .1 .0)) x (now (t .1 .1 .0)) (p .0) (p .1 .0) (p .1 .1)
+
+pub teravulk-layout :
+    (κs : Lfts 3) (a : Dens κs teravulk-layout-kinds.ps) (x : resT teravulk-layout-kinds.r κs .Denot) (t : AtExit (endedOf 3 teravulk-layout-kinds.ps teravulk-layout-kinds.r) κs)
+    → teravulk-layout-reads.Post κs a x t
+    → LayoutPromise (now (a .0)) (a .1 .0) (now (a .1 .1 .0)) x (now (t .1 .1 .1 .0)) (now (t .1 .1 .0))
+teravulk-layout κs a x t p =
+    subst (λ (y : ℕ × ℕ × List ℕ). LayoutPromise (now (a .0)) (a .1 .0) (now (a .1 .1 .0)) (y .0) (y .1) (y .2)) (λ i. (sym (p .0) i, sym (p .1 .0) i, sym (p .1 .1 .0) i))
+    (layout-promised (now (a .0)) (p .1 .1 .1) (a .1 .0) (now (a .1 .1 .0)))
 
 -- ---- its numbers
 

@@ -167,10 +167,22 @@ use Rattle.text.proofs.word.Kinds as text-word-kinds
 use Rattle.text.proofs.word.Reads as text-word-reads
 use Rattle.text.proofs.line.Kinds as text-line-kinds
 use Rattle.text.proofs.line.Reads as text-line-reads
+use Rattle.report.proofs.whole.Kinds as report-whole-kinds
+use Rattle.report.proofs.whole.Reads as report-whole-reads
+use Rattle.report.proofs.end_only.Kinds as report-end-only-kinds
+use Rattle.report.proofs.end_only.Reads as report-end-only-reads
 use Rattle.report.proofs.trial.Kinds as report-trial-kinds
 use Rattle.report.proofs.trial.Reads as report-trial-reads
 use Rattle.teravulk.proofs.teravulk_trial.Kinds as teravulk-trial-kinds
 use Rattle.teravulk.proofs.teravulk_trial.Reads as teravulk-trial-reads
+use Rattle.teravulk.proofs.teravulk_layout.Kinds as teravulk-layout-kinds
+use Rattle.teravulk.proofs.teravulk_layout.Reads as teravulk-layout-reads
+use Rattle.input.proofs.decimal.Kinds as input-decimal-kinds
+use Rattle.input.proofs.decimal.Reads as input-decimal-reads
+use Rattle.commands.proofs.word_of.Kinds as commands-word-of-kinds
+use Rattle.commands.proofs.word_of.Reads as commands-word-of-reads
+use Rattle.commands.proofs.layout.Kinds as commands-layout-kinds
+use Rattle.commands.proofs.layout.Reads as commands-layout-reads
 
 -- of the same arguments the contract allows one result
 abbrev pub OneResult : (n : ℕ) (ps : List (PK n)) (r : RK n) → Out n ps r → Type 0
@@ -453,8 +465,29 @@ text-word-one κs a x y s t p q = (same (p .place) (q .place), same (p .held) (q
 pub text-line-one : OneEnd _ text-line-kinds.ps text-line-kinds.r text-line-reads.Post (λ κs s. now (s .0))
 text-line-one κs a x y s t p q = (same (p .place) (q .place), same (p .held) (q .held))
 
+pub report-whole-one : OneEnd _ report-whole-kinds.ps report-whole-kinds.r report-whole-reads.Post (λ κs s. now (s .0))
+report-whole-one κs a x y s t p q = (same (p .0) (q .0), same (p .1) (q .1))
+
+pub report-end-only-one : OneEnd _ report-end-only-kinds.ps report-end-only-kinds.r report-end-only-reads.Post (λ κs s. now (s .0))
+report-end-only-one κs a x y s t p q = (same (p .0) (q .0), same (p .1 .0) (q .1 .0))
+
 pub report-trial-one : OneEnd _ report-trial-kinds.ps report-trial-kinds.r report-trial-reads.Post (λ κs s. now (s .1 .0))
 report-trial-one κs a x y s t p q = (same (p .count) (q .count), same (p .held) (q .held))
 
 pub teravulk-trial-one : OneEnd _ teravulk-trial-kinds.ps teravulk-trial-kinds.r teravulk-trial-reads.Post (λ κs s. now (s .1 .0))
 teravulk-trial-one κs a x y s t p q = (same (p .0) (q .0), same (p .1 .0) (q .1 .0))
+
+pub teravulk-layout-one : OneEnd _ teravulk-layout-kinds.ps teravulk-layout-kinds.r teravulk-layout-reads.Post {C = List ℕ × ℕ} (λ κs s. (now (s .1 .1 .0), now (s .1 .1 .1 .0)))
+teravulk-layout-one κs a x y s t p q = (same (p .0) (q .0), λ i. (same (p .1 .1 .0) (q .1 .1 .0) i, same (p .1 .0) (q .1 .0) i))
+
+-- ---- input, commands
+
+pub input-decimal-one : OneResult _ input-decimal-kinds.ps input-decimal-kinds.r input-decimal-reads.Post
+input-decimal-one κs a x y s t p q = same p q
+
+pub commands-word-of-one : OneResult _ commands-word-of-kinds.ps commands-word-of-kinds.r commands-word-of-reads.Post
+commands-word-of-one κs a x y s t p q = same p q
+
+pub commands-layout-one : OneEnd _ commands-layout-kinds.ps commands-layout-kinds.r commands-layout-reads.Post {C = List ℕ × List ℕ} (λ κs s. (now (s .1 .1 .0), now (s .1 .1 .1 .0)))
+commands-layout-one κs a x y s t p q =
+    (same (p .0 .counts) (q .0 .counts), λ i. (same (p .0 .on-output) (q .0 .on-output) i, same (p .0 .on-errors) (q .0 .on-errors) i))

@@ -3,6 +3,7 @@ ghost use Prim.Native.Nat.{_≤_};
 ghost use mathlib.Core.Path.{_≡_};
 ghost use lib.ListN.{length};
 ghost use Rattle.layout.specs.Layout.{layoutOf, laidIn};
+ghost use Rattle.records.specs.Keeps.{Bytes};
 ghost use Rattle.report.specs.Report.{textOf, writtenIn, filledBy};
 
 // Any bytes, any buffer: the text at the buffer's start, and how many bytes it has; or, in a buffer that is too short for the whole text,
@@ -28,6 +29,7 @@ pub extern "C" fn teravulk_layout(
     ensures number { λ r. ⌜ r ≡ layoutOf (now (bytes .entry)) depth (length (now (out .entry))) .number ⌝ }
     ensures place { λ _. ⌜ now (place .exit) ≡ layoutOf (now (bytes .entry)) depth (length (now (out .entry))) .place ⌝ }
     ensures written { λ _. ⌜ now (out .exit) ≡ laidIn (now (bytes .entry)) depth (now (out .entry)) ⌝ }
+    ensures small { λ _. ⌜ Bytes (now (bytes .entry)) ⌝ }
 {
     let laid = layout::layout(bytes, depth, out);
     *place = laid.place;
