@@ -1,5 +1,10 @@
 pub mod Begun
 pub mod Clauses
 pub mod Layouts
+pub mod Marks
+pub mod Puts
+pub mod Sound
+pub mod Steps
 pub mod Turns
 pub mod Unique
+pub mod Worked

@@ -1,1 +1,13 @@
+pub mod Bytes
+pub mod Clusters
+pub mod Consequences
+pub mod Fields
+pub mod Flags
+pub mod KeepsRecords
+pub mod KeepsWhole
+pub mod One
+pub mod Places
 pub mod Preferred
+pub mod Records
+pub mod Relaid
+pub mod Wires

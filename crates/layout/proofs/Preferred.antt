@@ -31,7 +31,7 @@ pair-trans (crossed e f) (straight g h) = crossed (e ∙ h) (f ∙ g)
 pair-trans (crossed e f) (crossed g h) = straight (e ∙ h) (f ∙ g)
 
 -- two that are not the same, paired anew, are not the same
-pair-apart : {a b x y : ℕ} → SamePair a b x y → (x ≡ y → ⊥) → a ≡ b → ⊥
+pub pair-apart : {a b x y : ℕ} → SamePair a b x y → (x ≡ y → ⊥) → a ≡ b → ⊥
 pair-apart (straight e f) d q = d (sym e ∙ q ∙ f)
 pair-apart (crossed e f) d q = d (sym f ∙ sym q ∙ e)
 

@@ -26,6 +26,10 @@ lowersIn p = map (λ x. x .a) (p .links)
 abbrev pub uppersIn : Plan → List ℕ
 uppersIn p = map (λ x. x .b) (p .links)
 
+-- their flags
+abbrev pub flagsIn : Plan → List ℕ
+flagsIn p = map (λ x. x .flag) (p .links)
+
 -- x and y have a link
 abbrev pub wired : Plan → ℕ → ℕ → Bool
 wired p = hasLink (lowersIn p) (uppersIn p) (length (p .links))
