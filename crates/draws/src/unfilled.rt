@@ -74,10 +74,11 @@ pub fn unfilled_plan(bytes: &mut [u8], dice: &mut u64, wish: Wish) -> usize {
     }
 }
 
-// Up to seven bytes more behind a plan; how many there then are.
+// Half the time up to seven bytes more behind a plan; how many there then are.
 pub fn append_any(bytes: &mut [u8], dice: &mut u64, size: usize) -> usize {
+    let most = below(dice, 2) * 8;
     let mut at = size;
-    for _ in 0..below(dice, 8) {
+    for _ in 0..below(dice, most) {
         let next = append(bytes, at, byte(below(dice, 256)));
         at = next;
     }

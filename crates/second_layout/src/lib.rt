@@ -2,13 +2,13 @@
 // proved crate.
 //
 //   layout    bytes and a depth in, the plan laid out in a lent buffer: answers 0 to 5, 10, 22 and 23
-mod claims;
+mod claiming;
 mod flags;
 mod paths;
 mod writing;
 
-use crate::claims::claim_all;
-use crate::claims::enter_parents;
+use crate::claiming::claim_all;
+use crate::claiming::enter_parents;
 use crate::flags::enter_flags;
 use crate::paths::NO_PATHS;
 use crate::writing::write;

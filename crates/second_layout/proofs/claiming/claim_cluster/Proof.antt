@@ -1,9 +1,9 @@
--- `claims::claim_cluster` is safe and ends: the turns are counted to the depth, whatever the links are.
+-- `claiming::claim_cluster` is safe and ends: the turns are counted to the depth, whatever the links are.
 -- Assumes nothing.
 use borrow.Author.Needs.{needs}
 use Prim.Native.Nat.{_≤_, _-_}
-use Rattle.second_layout.proofs.claims.claim_cluster.Statement.{statement}
-use Rattle.second_layout.proofs.claims.claim_cluster.Tie as tie
+use Rattle.second_layout.proofs.claiming.claim_cluster.Statement.{statement}
+use Rattle.second_layout.proofs.claiming.claim_cluster.Tie as tie
 
 abbrev Inv-loop : tie.InvT-loop
 Inv-loop plan paths₀ depth top counter₀ paths counter = counter ≤ depth

@@ -1,9 +1,9 @@
--- `claims::claim_all` is safe and ends: p counts up to the number of nodes, and each call in the loop takes any argument.
+-- `claiming::claim_all` is safe and ends: p counts up to the number of nodes, and each call in the loop takes any argument.
 -- Assumes nothing.
 use borrow.Author.Needs.{needs}
 use Prim.Native.Nat.{_≤_, _-_}
-use Rattle.second_layout.proofs.claims.claim_all.Statement.{statement}
-use Rattle.second_layout.proofs.claims.claim_all.Tie as tie
+use Rattle.second_layout.proofs.claiming.claim_all.Statement.{statement}
+use Rattle.second_layout.proofs.claiming.claim_all.Tie as tie
 
 abbrev Inv-loop : tie.InvT-loop
 Inv-loop plan paths₀ depth p₀ p-end paths p = p ≤ p-end

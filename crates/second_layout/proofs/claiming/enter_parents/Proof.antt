@@ -1,9 +1,9 @@
--- `claims::enter_parents` is safe and ends: p counts up to 64, and each call in the loop takes any argument.
+-- `claiming::enter_parents` is safe and ends: p counts up to 64, and each call in the loop takes any argument.
 -- Assumes nothing.
 use borrow.Author.Needs.{needs}
 use Prim.Native.Nat.{_≤_, _-_}
-use Rattle.second_layout.proofs.claims.enter_parents.Statement.{statement}
-use Rattle.second_layout.proofs.claims.enter_parents.Tie as tie
+use Rattle.second_layout.proofs.claiming.enter_parents.Statement.{statement}
+use Rattle.second_layout.proofs.claiming.enter_parents.Tie as tie
 
 abbrev Inv-loop : tie.InvT-loop
 Inv-loop plan₀ paths p₀ plan p = p ≤ 64

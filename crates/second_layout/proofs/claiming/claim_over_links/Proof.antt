@@ -1,9 +1,9 @@
--- `claims::claim_over_links` is safe and ends: l counts up to the number of links, and each call in the loop takes any argument.
+-- `claiming::claim_over_links` is safe and ends: l counts up to the number of links, and each call in the loop takes any argument.
 -- Assumes nothing.
 use borrow.Author.Needs.{needs}
 use Prim.Native.Nat.{_≤_, _-_}
-use Rattle.second_layout.proofs.claims.claim_over_links.Statement.{statement}
-use Rattle.second_layout.proofs.claims.claim_over_links.Tie as tie
+use Rattle.second_layout.proofs.claiming.claim_over_links.Statement.{statement}
+use Rattle.second_layout.proofs.claiming.claim_over_links.Tie as tie
 
 abbrev Inv-loop : tie.InvT-loop
 Inv-loop plan paths₀ depth top l₀ l-end paths l = l ≤ l-end
