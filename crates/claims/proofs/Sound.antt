@@ -96,7 +96,7 @@ module _ (sets : List ℕ) (depth : ℕ) where
   unfolding step
   step-sound {s} sound i h =
       let root = rooted-sound sound i h in
-      then-as root (spread-sound (root .sound) (getD (rooted i s .order) i 0))
+      then-as root (spread-sound (root .sound) _)
 
 -- ---- the start
 

@@ -5,7 +5,7 @@ use Prim.Native.Nat.{ℕ, zero, suc, _+_, _*_, _≤_}
 use native.Mathlib.Omega.{arith}
 use mathlib.Core.Path.{_≡_, refl, sym, _∙_, ap}
 use mathlib.Core.List.{List, [], _∷_, _++_, append-assoc}
-use lib.ListN.{length, getD, set, take, drop, length-append, length-drop}
+use lib.ListN.{length, getD, set, take, drop, length-append}
 use lib.Seq.{length-take-le, take-suc, drop-cons, append-snoc, set-at, take-at, drop-at}
 use Rattle.laws.specs.Below.{overBelow}
 use Rattle.records.specs.Plan.{Plan, PlanNode, PlanLink, twoBytes, roundsBytes, nodeBytes, nodesBytes, linkBytes, linksBytes, bytesOf}
@@ -36,17 +36,30 @@ flag-put number v x rest = refl
 
 -- ---- every parent, and every flag
 
+-- nodes with these parents, and links with these flags
+abbrev parented : List ℕ → List PlanNode → List PlanNode
+parented parents xs = eachWith withParent (λ i. getD parents i 0) xs
+
+abbrev flagged : List ℕ → List PlanLink → List PlanLink
+flagged flags xs = eachWith withFlag (λ l. getD flags l 0) xs
+
 -- the parents of nodes that stand behind a plan's rounds
-parents-written : (parents : List ℕ) (v : ℕ) (xs : List PlanNode) (after : List ℕ) → withParents parents (length xs) (roundsBytes v ++ (nodesBytes 0 xs ++ after)) ≡ roundsBytes v ++ (nodesBytes 0 (eachWith withParent (λ i. getD parents i 0) xs) ++ after)
+parents-written :
+    (parents : List ℕ) (v : ℕ) (xs : List PlanNode) (after : List ℕ)
+    → withParents parents (length xs) (roundsBytes v ++ (nodesBytes 0 xs ++ after)) ≡ roundsBytes v ++ (nodesBytes 0 (parented parents xs) ++ after)
 unfolding withParents withFields
 parents-written parents v xs after =
-    rw (nodes-run 0 xs, nodes-run 0 (eachWith withParent (λ i. getD parents i 0) xs)) (run-with nodeBytes 5 node-wide 2 withParent parent-put (λ i. getD parents i 0) 0 5 (roundsBytes v) xs after (omega (arith, rounds-wide v)))
+    rw (nodes-run 0 xs, nodes-run 0 (parented parents xs))
+    (run-with nodeBytes 5 node-wide 2 withParent parent-put (λ i. getD parents i 0) 0 5 (roundsBytes v) xs after (omega (arith, rounds-wide v)))
 
 -- the flags of links that stand behind a plan's rounds and nodes
-flags-written : (flags : List ℕ) (nodes : ℕ) (before : List ℕ) (xs : List PlanLink) (after : List ℕ) → length before ≡ 3 + 5 * nodes → withFlags flags nodes (length xs) (before ++ (linksBytes xs ++ after)) ≡ before ++ (linksBytes (eachWith withFlag (λ l. getD flags l 0) xs) ++ after)
+flags-written :
+    (flags : List ℕ) (nodes : ℕ) (before : List ℕ) (xs : List PlanLink) (after : List ℕ) → length before ≡ 3 + 5 * nodes
+    → withFlags flags nodes (length xs) (before ++ (linksBytes xs ++ after)) ≡ before ++ (linksBytes (flagged flags xs) ++ after)
 unfolding withFlags withFields
 flags-written flags nodes before xs after e =
-    rw (links-run 0 xs, links-run 0 (eachWith withFlag (λ l. getD flags l 0) xs)) (run-with numberedLink 4 link-wide 3 withFlag flag-put (λ l. getD flags l 0) 0 (3 + 5 * nodes + 3) before xs after (omega arith))
+    rw (links-run 0 xs, links-run 0 (flagged flags xs))
+    (run-with numberedLink 4 link-wide 3 withFlag flag-put (λ l. getD flags l 0) 0 (3 + 5 * nodes + 3) before xs after (omega arith))
 
 -- ---- the whole plan
 
@@ -60,9 +73,9 @@ module _ (parents flags : List ℕ) (p : Plan) where
   unfolding bytesOf
   plan-replaced rest =
       ap (replacedIn parents flags p) (apart nodes links)
-      ∙ ap (withFlags flags (length (p .nodes)) (length (p .links))) (parents-written parents (p .rounds) (p .nodes) (links ++ (0 ∷ [] ++ rest)) ∙ sym (append-assoc rounds nodes′ (links ++ (0 ∷ [] ++ rest))))
-      ∙ flags-written flags (length (p .nodes)) (rounds ++ nodes′) (p .links) (0 ∷ [] ++ rest) (omega (arith, length-append rounds nodes′, rounds-wide (p .rounds), nodes-length 0 (relaid parents flags p .nodes), relaid-nodes parents flags p))
-      ∙ append-assoc rounds nodes′ (links′ ++ (0 ∷ [] ++ rest))
+      ∙ ap (withFlags flags (length (p .nodes)) (length (p .links))) (parents-written parents (p .rounds) (p .nodes) (links ++ end) ∙ sym (append-assoc rounds nodes′ (links ++ end)))
+      ∙ flags-written flags (length (p .nodes)) (rounds ++ nodes′) (p .links) end before-links
+      ∙ append-assoc rounds nodes′ (links′ ++ end)
       ∙ sym (apart nodes′ links′)
     where
       rounds : List ℕ
@@ -75,12 +88,19 @@ module _ (parents flags : List ℕ) (p : Plan) where
       links = linksBytes (p .links)
 
       nodes′ : List ℕ
-      nodes′ = nodesBytes 0 (relaid parents flags p .nodes)
+      nodes′ = nodesBytes 0 (parented parents (p .nodes))
 
       links′ : List ℕ
-      links′ = linksBytes (relaid parents flags p .links)
+      links′ = linksBytes (flagged flags (p .links))
 
-      apart : (xs ys : List ℕ) → rounds ++ xs ++ ys ++ 0 ∷ [] ++ rest ≡ rounds ++ (xs ++ (ys ++ (0 ∷ [] ++ rest)))
+      end : List ℕ
+      end = 0 ∷ [] ++ rest
+
+      before-links : length (rounds ++ nodes′) ≡ 3 + 5 * length (p .nodes)
+      before-links =
+          omega (arith, length-append rounds nodes′, rounds-wide (p .rounds), nodes-length 0 (parented parents (p .nodes)), relaid-nodes parents flags p)
+
+      apart : (xs ys : List ℕ) → rounds ++ xs ++ ys ++ 0 ∷ [] ++ rest ≡ rounds ++ (xs ++ (ys ++ end))
       apart xs ys = simp append-assoc
 
   -- as long as before
@@ -97,14 +117,9 @@ module _ (parents flags : List ℕ) (p : Plan) where
     bytes-long : length (bytesOf (relaid parents flags p)) ≡ n
     bytes-long = relaid-length ∙ ap length (sym holds) ∙ length-take-le n s within
 
-    -- the plan's bytes, what stands behind them, and the buffer's length
+    -- the plan's bytes, and what stands behind them
     pub laid-front : take n (replacedIn parents flags p (copied s n out)) ≡ bytesOf (relaid parents flags p)
     laid-front = ap (take n) laid-bytes ∙ take-at (bytesOf (relaid parents flags p)) (drop n out) n bytes-long
 
     pub laid-rest : drop n (replacedIn parents flags p (copied s n out)) ≡ drop n out
     laid-rest = ap (drop n) laid-bytes ∙ drop-at (bytesOf (relaid parents flags p)) (drop n out) n bytes-long
-
-    pub laid-length : length (replacedIn parents flags p (copied s n out)) ≡ length out
-    laid-length =
-        ap length laid-bytes
-        ∙ omega (arith, length-append (bytesOf (relaid parents flags p)) (drop n out), bytes-long, length-drop n out)

@@ -10,7 +10,7 @@ use Rattle.laws.proofs.Choice.{ifLt-yes}
 use Rattle.laws.proofs.Below.{over-below}
 use Rattle.tree.specs.Climb.{parentIn, rootFrom, rootNumber, Leads}
 use Rattle.tree.proofs.Roots.{found-exactly, leads-root}
-use Rattle.clusters.specs.Clusters.{rootsOf, rootAt, clusterAt}
+use Rattle.clusters.specs.Clusters.{rootsOf, rootAt}
 use Rattle.claims.specs.Claiming.{claimAll, parentsOf}
 use Rattle.claims.proofs.Layouts.{deep-leads}
 use Rattle.claims.proofs.Steps.{claimed-so}
@@ -18,7 +18,7 @@ use Rattle.records.specs.Numbers.{accepted}
 use Rattle.records.specs.Reader.{listsOf}
 use Rattle.records.specs.Keeps.{Bytes}
 use Rattle.links.specs.Links.{nodesOf, linksOf}
-use Rattle.layout.specs.Layout.{wiresOf, laidParents}
+use Rattle.layout.specs.Layout.{wiresOf, laidParents, Clustered}
 use Rattle.layout.proofs.Places.{ends-within}
 
 -- the table holds the root that the parents of a node lead to
@@ -41,11 +41,13 @@ root-within sets n depth p few h =
     let (r, x) = laid-leads sets n depth p few h in
     omega (arith, root-in-table (parentsOf sets n depth) n p r few h x, leads-root (parentIn (parentsOf sets n depth)) n x .node)
 
--- the clusters at the two ends of each link
+-- the clusters at the two ends of each link are nodes
 pub clusters-within :
-    (s : List ℕ) (depth : ℕ) → Bytes s → listsOf s .number ≡ accepted → (l : ℕ) → l < linksOf (wiresOf s)
-    → (clusterAt (rootsOf (laidParents (wiresOf s) depth) (nodesOf (wiresOf s))) (wiresOf s .lowers) l < 64) × (clusterAt (rootsOf (laidParents (wiresOf s) depth) (nodesOf (wiresOf s))) (wiresOf s .uppers) l < 64)
+    (s : List ℕ) (depth : ℕ) → Bytes s → listsOf s .number ≡ accepted
+    → Clustered (rootsOf (laidParents (wiresOf s) depth) (nodesOf (wiresOf s))) (wiresOf s .lowers) (wiresOf s .uppers) (linksOf (wiresOf s))
 clusters-within s depth small none l h =
     let (a, b) = ends-within s small none l h in
-    let within : (p : ℕ) → p < nodesOf (wiresOf s) → rootAt (rootsOf (laidParents (wiresOf s) depth) (nodesOf (wiresOf s))) p < 64 = λ p i. root-within (wiresOf s .neighbours) (nodesOf (wiresOf s)) depth p (omega arith) i in
     (within (getD (wiresOf s .lowers) l 0) a, within (getD (wiresOf s .uppers) l 0) b)
+  where
+    within : (p : ℕ) → p < nodesOf (wiresOf s) → rootAt (rootsOf (laidParents (wiresOf s) depth) (nodesOf (wiresOf s))) p < 64
+    within p h = root-within (wiresOf s .neighbours) (nodesOf (wiresOf s)) depth p (omega arith) h

@@ -5,10 +5,9 @@ use Prim.Native.Nat.{ℕ, _<_, _≤_}
 use native.Mathlib.Omega.{arith}
 use native.Mathlib.Decide.{ℕ-discrete}
 use mathlib.Core.Path.{_≡_, sym, _∙_, subst}
-use lib.ListN.{length, getD, length-map}
+use lib.ListN.{length, getD}
 use Rattle.network.specs.Sets.{withSets}
 use Rattle.records.specs.Plan.{Plan, networkOf, Keeps1to5}
-use Rattle.records.proofs.Lists.{padded-at}
 use Rattle.links.specs.Links.{nodesOf, linksOf, hasLink}
 use Rattle.tree.specs.Climb.{parentIn, depthOf}
 use Rattle.joined.specs.Joined.{JoinedIn}
@@ -21,17 +20,17 @@ use Rattle.layout.specs.LaidOut.{parentsIn, flagsIn, LaidOut}
 use Rattle.layout.proofs.KeepsRecords.{keeps-too}
 use Rattle.layout.proofs.KeepsWhole.{keeps-whole, within-depth, own-clusters}
 use Rattle.layout.proofs.Places.{all-nodes}
-use Rattle.layout.proofs.Wires.{wires-nodes, wires-links, wired-same, joined-same, wired-in-network}
+use Rattle.layout.proofs.Wires.{wires-nodes, wires-links, wired-same, joined-same, entry-in-network, wired-in-network}
 
 -- ---- the entries of a plan's network are the plan's
 
 pub parent-in-network : (p : Plan) (i : ℕ) → i < length (p .nodes) → parentIn (planNetwork p .parents) i ≡ getD (parentsIn p) i 0
 unfolding withSets networkOf
-parent-in-network p i h = padded-at 64 (parentsIn p) i (omega (arith, length-map (p .nodes) (λ x. x .parent)))
+parent-in-network p i h = entry-in-network (λ x. x .parent) 64 (p .nodes) i h
 
 pub flag-in-network : (p : Plan) (l : ℕ) → l < length (p .links) → getD (planNetwork p .flags) l 0 ≡ getD (flagsIn p) l 0
 unfolding withSets networkOf
-flag-in-network p l h = padded-at 128 (flagsIn p) l (omega (arith, length-map (p .links) (λ x. x .flag)))
+flag-in-network p l h = entry-in-network (λ x. x .flag) 128 (p .links) l h
 
 -- a flag that marks the first links is 0 or 1
 first-flags-small : (p : Plan) → FirstLinks (planNetwork p) → (l : ℕ) → l < linksOf (planNetwork p) → getD (planNetwork p .flags) l 0 ≤ 1

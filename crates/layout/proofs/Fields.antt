@@ -73,20 +73,30 @@ module _ {A : Type 0} (bytes : ℕ → A → List ℕ) (width : ℕ) (wide : (nu
     unfolding run eachWith foldBelow
     run-with f number start before [] after e = refl
     run-with f number start before (x ∷ xs) after e =
-        fold-first (λ i l. set l (start + width * i) (f i)) (before ++ (bytes number x ++ run bytes (suc number) xs ++ after)) (length xs)
-        ∙ ap (λ z. foldBelow (λ i l. set l (start + width * suc i) (f (suc i))) z (length xs)) first
-        ∙ fold-same (λ i l. set l (start + width * suc i) (f (suc i))) (λ i l. set l (start + width + width * i) (f (suc i))) (before ++ new ++ (run bytes (suc number) xs ++ after)) (length xs) (λ i _ l. ap (λ k. set l k (f (suc i))) (omega arith))
-        ∙ run-with (λ i. f (suc i)) (suc number) (start + width) (before ++ new) xs after (omega (arith, length-append before new, wide number (put (f 0) x)))
-        ∙ append-assoc before new (run bytes (suc number) (eachWith put (λ i. f (suc i)) xs) ++ after)
-        ∙ ap (λ l. before ++ l) (sym (append-assoc new (run bytes (suc number) (eachWith put (λ i. f (suc i)) xs)) after))
+        fold-first (put-at start f) (before ++ (bytes number x ++ others ++ after)) (length xs)
+        ∙ ap (λ z. foldBelow (λ i. put-at start f (suc i)) z (length xs)) first
+        ∙ fold-same (λ i. put-at start f (suc i)) (put-at (start + width) g) (before ++ new ++ (others ++ after)) (length xs) (λ i _ l. ap (λ k. set l k (f (suc i))) (omega arith))
+        ∙ run-with g (suc number) (start + width) (before ++ new) xs after (omega (arith, length-append before new, wide number (put (f 0) x)))
+        ∙ append-assoc before new (run bytes (suc number) (eachWith put g xs) ++ after)
+        ∙ ap (λ l. before ++ l) (sym (append-assoc new (run bytes (suc number) (eachWith put g xs)) after))
       where
+        put-at : ℕ → (ℕ → ℕ) → ℕ → List ℕ → List ℕ
+        put-at from h i l = set l (from + width * i) (h i)
+
+        -- the numbers for the other records, and their bytes before
+        g : ℕ → ℕ
+        g i = f (suc i)
+
+        others : List ℕ
+        others = run bytes (suc number) xs
+
         new : List ℕ
         new = bytes number (put (f 0) x)
 
-        first : set (before ++ (bytes number x ++ run bytes (suc number) xs ++ after)) (start + width * 0) (f 0) ≡ before ++ new ++ (run bytes (suc number) xs ++ after)
+        first : set (before ++ (bytes number x ++ others ++ after)) (start + width * 0) (f 0) ≡ before ++ new ++ (others ++ after)
         first =
-            ap (λ k. set (before ++ (bytes number x ++ run bytes (suc number) xs ++ after)) k (f 0)) (omega arith)
-            ∙ set-behind before (bytes number x ++ run bytes (suc number) xs ++ after) place (f 0)
-            ∙ ap (λ l. before ++ set l place (f 0)) (append-assoc (bytes number x) (run bytes (suc number) xs) after)
-            ∙ ap (λ l. before ++ l) (puts number (f 0) x (run bytes (suc number) xs ++ after))
-            ∙ sym (append-assoc before new (run bytes (suc number) xs ++ after))
+            ap (λ k. set (before ++ (bytes number x ++ others ++ after)) k (f 0)) (omega arith)
+            ∙ set-behind before (bytes number x ++ others ++ after) place (f 0)
+            ∙ ap (λ l. before ++ set l place (f 0)) (append-assoc (bytes number x) others after)
+            ∙ ap (λ l. before ++ l) (puts number (f 0) x (others ++ after))
+            ∙ sym (append-assoc before new (others ++ after))

@@ -21,7 +21,9 @@ nodes-fit-too (x ∷ xs) (y ∷ ys) e b f =
     let start : y .start ≡ x .start = cc in
     (b 0 (omega arith), omega (arith, f .1), nodes-fit-too xs ys (cc) (λ i h. b (suc i) (omega arith)) (f .2))
 
-links-fit-too : (count : ℕ) (xs ys : List PlanLink) → map (λ x. x .a) ys ≡ map (λ x. x .a) xs → map (λ x. x .b) ys ≡ map (λ x. x .b) xs → ((l : ℕ) → l < length ys → getD (map (λ x. x .flag) ys) l 0 ≤ 1) → LinksFit count xs → LinksFit count ys
+links-fit-too :
+    (count : ℕ) (xs ys : List PlanLink) → map (λ x. x .a) ys ≡ map (λ x. x .a) xs → map (λ x. x .b) ys ≡ map (λ x. x .b) xs
+    → ((l : ℕ) → l < length ys → getD (map (λ x. x .flag) ys) l 0 ≤ 1) → LinksFit count xs → LinksFit count ys
 unfolding LinksFit
 links-fit-too count xs [] e g b f = tt
 links-fit-too count [] (y ∷ ys) e g b f =
@@ -35,7 +37,9 @@ links-fit-too count (x ∷ xs) (y ∷ ys) e g b f =
 above-too : (x x′ y y′ : PlanLink) → x′ .a ≡ x .a → x′ .b ≡ x .b → y′ .a ≡ y .a → y′ .b ≡ y .b → Above x y → Above x′ y′
 above-too x x′ y y′ a b c d = ⊎-elim (λ l. inl (omega arith)) (λ w. inr (omega arith))
 
-rising-from-too : (x y : PlanLink) (xs ys : List PlanLink) → y .a ≡ x .a → y .b ≡ x .b → map (λ z. z .a) ys ≡ map (λ z. z .a) xs → map (λ z. z .b) ys ≡ map (λ z. z .b) xs → RisingFrom x xs → RisingFrom y ys
+rising-from-too :
+    (x y : PlanLink) (xs ys : List PlanLink) → y .a ≡ x .a → y .b ≡ x .b
+    → map (λ z. z .a) ys ≡ map (λ z. z .a) xs → map (λ z. z .b) ys ≡ map (λ z. z .b) xs → RisingFrom x xs → RisingFrom y ys
 unfolding RisingFrom
 rising-from-too x y xs [] a b e g r = tt
 rising-from-too x y [] (v ∷ vs) a b e g r =

@@ -33,8 +33,11 @@ module _ (net : Network) {depth : ℕ} {c : Claims} (so : ClaimedSo (hasLink (ne
   tied : Every (Tied net) (nodesOf net)
   unfolding Tied
   tied p h no-root =
-      subst (λ q. (q < nodesOf net) × Linked (net .lowers) (net .uppers) (linksOf net) p q) (sym (parents p h))
-      (parent-below so p h, linked-sym (net .lowers) (net .uppers) (linksOf net) (has-link-linked (net .lowers) (net .uppers) (linksOf net) (c .by p) p (parent-linked so p h (λ q. no-root (parents p h ∙ q)))))
+      subst (λ q. (q < nodesOf net) × Linked (net .lowers) (net .uppers) (linksOf net) p q) (sym (parents p h)) (parent-below so p h, linked-sym (net .lowers) (net .uppers) (linksOf net) linked)
+    where
+      linked : Linked (net .lowers) (net .uppers) (linksOf net) (c .by p) p
+      linked =
+          has-link-linked (net .lowers) (net .uppers) (linksOf net) (c .by p) p (parent-linked so p h (λ q. no-root (parents p h ∙ q)))
 
   exact : (p : ℕ) → p < nodesOf net → (r : ℕ) × ExactIn (parentIn (net .parents)) (nodesOf net) (c .deep p) p r
   exact p h =

@@ -1,3 +1,5 @@
+pub mod Answers
+pub mod Buffer
 pub mod Bytes
 pub mod Clusters
 pub mod Consequences
@@ -5,9 +7,13 @@ pub mod Fields
 pub mod Flags
 pub mod KeepsRecords
 pub mod KeepsWhole
+pub mod LaidPlan
 pub mod One
 pub mod Places
 pub mod Preferred
 pub mod Records
+pub mod Refusals
 pub mod Relaid
 pub mod Wires
+pub mod Worked
+pub mod Written

@@ -19,7 +19,7 @@ use Rattle.layout.specs.FirstLinks.{firstFlag}
 use Rattle.layout.specs.LaidOut.{parentsIn, flagsIn, SameWires, LaidOut}
 use Rattle.layout.proofs.Consequences.{flag-in-network, laid-records}
 use Rattle.layout.proofs.Places.{all-links}
-use Rattle.layout.proofs.Preferred.{first-links-exactly}
+use Rattle.layout.proofs.Preferred.{firstFlagIn, first-links-exactly}
 use Rattle.layout.proofs.Wires.{wires-sym, wires-trans, wires-nodes, wires-links, wired-same}
 
 -- ---- what stood in parents and flags
@@ -47,7 +47,7 @@ unfolding clusterOf
 clusters-same net other e f = rw (e, f)
 
 -- a link's flag, by the clusters of the links
-flag-told : {depth : ℕ} {p q : Plan} (L : LaidOut depth p q) → Keeps1to5 p → (l : ℕ) → l < length (p .links) → getD (flagsIn q) l 0 ≡ firstFlag (λ k. clusterOf (planNetwork q) (getD (planNetwork q .lowers) k 0)) (λ k. clusterOf (planNetwork q) (getD (planNetwork q .uppers) k 0)) l
+flag-told : {depth : ℕ} {p q : Plan} (L : LaidOut depth p q) → Keeps1to5 p → (l : ℕ) → l < length (p .links) → getD (flagsIn q) l 0 ≡ firstFlagIn (planNetwork q) l
 flag-told {depth} {p} {q} L K l h =
     sym (flag-in-network q l (omega (arith, wires-links (L .same))))
     ∙ first-links-exactly (planNetwork q) .0 (L .preferred) l (omega (arith, wires-links (L .same), all-links q (laid-records L K)))
@@ -73,7 +73,7 @@ module _ {depth : ℕ} {p q q′ : Plan} (L : LaidOut depth p q) (L′ : LaidOut
         ext-getD 0 (flagsIn q) (flagsIn q′) (length-map (q .links) (λ x. x .flag) ∙ wires-links wires ∙ sym (length-map (q′ .links) (λ x. x .flag)))
         (λ l h. let b : l < length (p .links) = omega (arith, length-map (q .links) (λ x. x .flag), wires-links (L .same)) in flag-told L K l b ∙ same-flag l ∙ sym (flag-told L′ K l b))
       where
-        same-flag : (l : ℕ) → firstFlag (λ k. clusterOf (planNetwork q) (getD (planNetwork q .lowers) k 0)) (λ k. clusterOf (planNetwork q) (getD (planNetwork q .uppers) k 0)) l ≡ firstFlag (λ k. clusterOf (planNetwork q′) (getD (planNetwork q′ .lowers) k 0)) (λ k. clusterOf (planNetwork q′) (getD (planNetwork q′ .uppers) k 0)) l
+        same-flag : (l : ℕ) → firstFlagIn (planNetwork q) l ≡ firstFlagIn (planNetwork q′) l
         same-flag l =
             λ i. firstFlag (λ k. clusters-one i (getD (padded 128 (wires .lowers i)) k 0)) (λ k. clusters-one i (getD (padded 128 (wires .uppers i)) k 0)) l
 

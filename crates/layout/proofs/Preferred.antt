@@ -37,6 +37,10 @@ pair-apart (crossed e f) d q = d (sym f ∙ sym q ∙ e)
 
 -- ---- the flags that are computed, and those that are told
 
+-- a link's flag, by the clusters of a network
+abbrev pub firstFlagIn : Network → ℕ → ℕ
+firstFlagIn net = firstFlag (λ k. clusterOf net (getD (net .lowers) k 0)) (λ k. clusterOf net (getD (net .uppers) k 0))
+
 module _ (net : Network) where
   abbrev lower : ℕ → ℕ
   lower l = clusterOf net (getD (net .lowers) l 0)
@@ -67,7 +71,7 @@ module _ (net : Network) where
         eq-elim (λ z. (z ≡ 1 → ⊥) → z ≡ 0) (lower l) (upper l) 0 (ifLt (firstOf like l) l 0 1) (λ _ _. refl)
         (λ _. lt-elim (λ z. (z ≡ 1 → ⊥) → z ≡ 0) (firstOf like l) l 0 1 (λ _ _. refl) (λ _ a. absurd (a refl)))
 
-  pub first-links-exactly : FirstLinks net ↔ ((l : ℕ) → l < linksOf net → getD (net .flags) l 0 ≡ firstFlag (λ k. clusterOf net (getD (net .lowers) k 0)) (λ k. clusterOf net (getD (net .uppers) k 0)) l)
+  pub first-links-exactly : FirstLinks net ↔ ((l : ℕ) → l < linksOf net → getD (net .flags) l 0 ≡ firstFlagIn net l)
   first-links-exactly = (computed, told)
     where
       computed : FirstLinks net → (l : ℕ) → l < linksOf net → getD (net .flags) l 0 ≡ firstFlag lower upper l

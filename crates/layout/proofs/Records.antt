@@ -1,7 +1,6 @@
--- A plan's bytes as runs of records, nodes of 5 bytes and links of 4, so that the plan's length is told by its counts; and the place of every
--- parent and flag byte lies below it.
+-- A plan's bytes as runs of records, nodes of 5 bytes and links of 4, so that the plan's length is told by its counts.
 -- Assumes nothing.
-use Prim.Native.Nat.{ℕ, suc, _+_, _*_, _<_}
+use Prim.Native.Nat.{ℕ, suc, _+_, _*_}
 use native.Mathlib.Omega.{arith}
 use mathlib.Core.Path.{_≡_, refl, ap}
 use mathlib.Core.List.{List, [], _∷_, _++_}

@@ -7,6 +7,7 @@ use native.Mathlib.Omega.{arith}
 use mathlib.Core.Path.{_≡_, refl, sym, _∙_, ap, ap₂}
 use mathlib.Core.Logic.{_↔_}
 use mathlib.Core.Bool.{Bool, true}
+use mathlib.Core.List.{List, map}
 use lib.Dec.{ltb}
 use lib.ListN.{length, getD, length-map}
 use Rattle.laws.specs.Choice.{ifB, ifLt}
@@ -16,7 +17,7 @@ use Rattle.laws.proofs.Below.{list-at}
 use Rattle.nodeset.specs.Marks.{member}
 use Rattle.network.specs.declared.Network.{Network}
 use Rattle.network.specs.Sets.{neighboursOf, withSets}
-use Rattle.records.specs.Plan.{Plan, networkOf, Keeps1to5}
+use Rattle.records.specs.Plan.{Plan, padded, networkOf, Keeps1to5}
 use Rattle.records.proofs.Lists.{padded-at}
 use Rattle.links.specs.Links.{nodesOf, linksOf, joins, linkBetween, hasLink, Linked}
 use Rattle.links.proofs.Links.{has-link-linked, linked-has-link, linked-exactly}
@@ -61,6 +62,10 @@ module _ {p q : Plan} (w : SameWires p q) where
 
 -- ---- a plan's links, by its network
 
+-- an entry of a network's list is the plan's
+pub entry-in-network : {A : Type 0} (f : A → ℕ) (n : ℕ) (xs : List A) (i : ℕ) → i < length xs → getD (padded n (map f xs)) i 0 ≡ getD (map f xs) i 0
+entry-in-network f n xs i h = padded-at n (map f xs) i (omega (arith, length-map xs f))
+
 first-same : (s t : ℕ → Bool) (n : ℕ) → ((k : ℕ) → k < n → s k ≡ t k) → firstOf s n ≡ firstOf t n
 unfolding firstOf
 first-same s t zero e = refl
@@ -70,9 +75,17 @@ first-same s t (suc n) e =
 module _ (p : Plan) where
   links-padded : (x y : ℕ) → hasLink (networkOf p .lowers) (networkOf p .uppers) (length (p .links)) x y ≡ wired p x y
   unfolding hasLink linkBetween networkOf
-  links-padded x y =
-      ap (λ k. ltb k (length (p .links)))
-      (first-same (λ l. joins (getD (networkOf p .lowers) l 0) (getD (networkOf p .uppers) l 0) x y) (λ l. joins (getD (lowersIn p) l 0) (getD (uppersIn p) l 0) x y) (length (p .links)) (λ l h. ap₂ (λ a b. joins a b x y) (padded-at 128 (lowersIn p) l (omega (arith, length-map (p .links) (λ z. z .a)))) (padded-at 128 (uppersIn p) l (omega (arith, length-map (p .links) (λ z. z .b))))))
+  links-padded x y = ap (λ k. ltb k (length (p .links))) (first-same in-network in-plan (length (p .links)) same)
+    where
+      in-network : ℕ → Bool
+      in-network l = joins (getD (padded 128 (lowersIn p)) l 0) (getD (padded 128 (uppersIn p)) l 0) x y
+
+      in-plan : ℕ → Bool
+      in-plan l = joins (getD (lowersIn p) l 0) (getD (uppersIn p) l 0) x y
+
+      same : (l : ℕ) → l < length (p .links) → in-network l ≡ in-plan l
+      same l h =
+          ap₂ (λ a b. joins a b x y) (entry-in-network (λ z. z .a) 128 (p .links) l h) (entry-in-network (λ z. z .b) 128 (p .links) l h)
 
   -- x and y have a link in the plan exactly if they have one in its network
   pub wired-in-network : Keeps1to5 p → (x y : ℕ) → hasLink (planNetwork p .lowers) (planNetwork p .uppers) (linksOf (planNetwork p)) x y ≡ wired p x y

@@ -1,3 +1,4 @@
+pub mod Answers
 pub mod FirstLinks
 pub mod LaidOut
 pub mod Layout

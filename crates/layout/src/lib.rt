@@ -12,6 +12,7 @@ use records::read_lists;
 ghost use mathlib.Core.Path.{_≡_};
 ghost use Prim.Native.Nat.{ℕ, _+_, _*_, _<_, _≤_};
 ghost use lib.ListN.{length};
+ghost use Rattle.records.specs.Keeps.{Bytes};
 ghost use Rattle.layout.specs.Layout.{copied, withFields, flagBy, metWith, firstFlags, Clustered, LaysOut, laidOver, layoutOf, laidIn};
 
 // "depth above 63"
@@ -124,7 +125,9 @@ fn lay(bytes: &[u8], taken: usize, net: Network, depth: u8, out: &mut [u8])
 // Any bytes, any depth, any buffer: 1 to 5 as the plan reader, 10, 22, 23, in this order, and nothing is written; or 0, and the buffer begins with
 // the plan laid out.
 pub fn layout(bytes: &[u8], depth: usize, out: &mut [u8]) -> Laid
-    ensures { λ r. ⌜ (r ≡ layoutOf (now (bytes .entry)) depth (length (now (out .entry)))) × (now (out .exit) ≡ laidIn (now (bytes .entry)) depth (now (out .entry))) ⌝ }
+    ensures answer { λ r. ⌜ r ≡ layoutOf (now (bytes .entry)) depth (length (now (out .entry))) ⌝ }
+    ensures written { λ _. ⌜ now (out .exit) ≡ laidIn (now (bytes .entry)) depth (now (out .entry)) ⌝ }
+    ensures small { λ _. ⌜ Bytes (now (bytes .entry)) ⌝ }
 {
     let lists = read_lists(bytes);
     let number = lists.number;
