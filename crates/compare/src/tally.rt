@@ -145,15 +145,11 @@ fn write_counts(tally: &Tally) {
     }
 }
 
-pub fn report_differences(tally: &Tally) {
-    write(b"differences: ", count(tally, DIFFERENT));
-    io::write_all(STDOUT_FILENO, b"\n");
-}
-
+// The last lines of a report.
 fn report_compared(tally: &Tally) {
     write(b"numbers compared: ", count(tally, COMPARED));
+    write(b"\ndifferences: ", count(tally, DIFFERENT));
     io::write_all(STDOUT_FILENO, b"\n");
-    report_differences(tally);
 }
 
 pub fn report(tally: &Tally) {
@@ -178,4 +174,10 @@ pub fn report_layouts(tally: &Tally) {
     io::write_all(STDOUT_FILENO, b"\n");
     write_answers(tally, b"layout's answer ");
     report_compared(tally);
+}
+
+// How many differences were found of those that were planted.
+pub fn report_planted(tally: &Tally) {
+    write(b"planted differences found: ", count(tally, DIFFERENT));
+    io::write_all(STDOUT_FILENO, b"\n");
 }

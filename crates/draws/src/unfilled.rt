@@ -8,6 +8,7 @@ use crate::damage::link_at;
 use crate::damage::links_in;
 use crate::damage::node_at;
 use crate::dice::below;
+use crate::dice::once_in;
 use crate::numbers::byte;
 use crate::numbers::plus;
 use crate::plans::Wish;
@@ -76,7 +77,7 @@ pub fn unfilled_plan(bytes: &mut [u8], dice: &mut u64, wish: Wish) -> usize {
 
 // Half the time up to seven bytes more behind a plan; how many there then are.
 pub fn append_any(bytes: &mut [u8], dice: &mut u64, size: usize) -> usize {
-    let most = below(dice, 2) * 8;
+    let most = if once_in(dice, 2) { 8 } else { 0 };
     let mut at = size;
     for _ in 0..below(dice, most) {
         let next = append(bytes, at, byte(below(dice, 256)));

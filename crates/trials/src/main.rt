@@ -78,4 +78,6 @@ fn main() {
         trial(&mut tally, &mut dice, t);
     }
     report(&tally);
+    layouts::try_drawn();
+    layouts::try_planted();
 }

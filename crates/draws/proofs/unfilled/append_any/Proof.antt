@@ -8,12 +8,12 @@ use Rattle.draws.proofs.unfilled.append_any.Statement.{statement}
 use Rattle.draws.proofs.unfilled.append_any.Tie as tie
 
 abbrev Inv-loop : tie.InvT-loop
-Inv-loop bytes₀ dice₀ size at₀ counter₀ end bytes dice at counter = (counter ≤ end) × (length bytes ≡ length bytes₀)
+Inv-loop bytes₀ dice₀ size most at₀ counter₀ end bytes dice at counter = (counter ≤ end) × (length bytes ≡ length bytes₀)
 
 abbrev μ-loop : tie.MeasureT-loop
-μ-loop bytes₀ dice₀ size at₀ counter₀ end bytes dice at counter = end - counter
+μ-loop bytes₀ dice₀ size most at₀ counter₀ end bytes dice at counter = end - counter
 
 pub append-any-spec : {M : Type 1} → statement M
 append-any-spec =
     tie.close
-    (tie.spec Inv-loop μ-loop (λ c κs. search needs) (λ c. search needs) (λ c κs. search needs) (λ c κs. search needs) (λ c κs. search needs) (λ c. search needs) (λ c. search needs) (λ c. search needs) (λ c. search needs) (λ c. search needs))
+    (tie.spec Inv-loop μ-loop (λ c κs. search needs) (λ c κs. search needs) (λ c. search needs) (λ c κs. search needs) (λ c κs. search needs) (λ c κs. search needs) (λ c. search needs) (λ c. search needs) (λ c. search needs) (λ c. search needs) (λ c. search needs))
