@@ -1,5 +1,6 @@
 #!/usr/bin/env python3
-"""Writes the long sample trials of this folder, NAME.hex with the text each gives, NAME.out: whole runs of a plan in some delivery order.
+"""Writes the long sample trials of this folder, NAME.hex with the text each gives, NAME.out: whole runs of a plan in some delivery order; and in
+layout/ the plans to lay out, NAME.hex, with the plan that `desk layout DEPTH` makes of each, NAME.DEPTH.laid, and the text that gives, NAME.DEPTH.out.
 
 Usage: trials/make.py        (writes the files anew; the same text each time)
 
@@ -17,6 +18,8 @@ HERE = os.path.dirname(os.path.abspath(__file__))
 
 SENT_BEFORE = {PACKET_DELIVERED: PACKET_SENT, ACK_DELIVERED: ACK_SENT, SUBTREE_OK_DELIVERED: SUBTREE_OK_SENT, DOWN_DELIVERED: DOWN_SENT,
                PREFERRED_DELIVERED: PREFERRED_SENT, UP_DELIVERED: UP_SENT, SUBTREE_GO_DELIVERED: SUBTREE_GO_SENT}
+
+OPEN = 255  # a parent that nobody filled in
 
 
 class Run:
@@ -131,7 +134,7 @@ class Run:
     def plan_lines(self):
         out = ["01 %02X %02X          # rounds %d" % (self.rounds >> 8, self.rounds & 255, self.rounds)]
         for p, (parent, value) in enumerate(self.nodes):
-            place = "a root" if parent == p else "parent %d" % parent
+            place = "a root" if parent == p else "parent left open" if parent == OPEN else "parent %d" % parent
             out.append("02 %02X %02X %02X %02X    # node %d, %s, starts at %d" % (p, parent, value >> 8, value & 255, p, place, value))
         for a, b, flag in self.links:
             out.append("03 %02X %02X %02X       # link %d-%d%s" % (a, b, flag, a, b, ", preferred" if flag else ""))
@@ -219,3 +222,57 @@ ROOTS = [[2, p, p, 0, 100] for p in range(65)]
 refused("refused-04-nodes", "A 65th node. Places count from 0: 3 bytes of rounds and 64 nodes of 5 bytes stand before it.", [[1, 0, 1]] + ROOTS + [[0]], "end 4 323")
 PAIRS = [[3, a, b, 1] for a in range(64) for b in range(a + 1, 64)][:129]
 refused("refused-04-links", "A 129th link, after 64 nodes and 128 links of 4 bytes.", [[1, 0, 1]] + ROOTS[:64] + PAIRS + [[0]], "end 4 835")
+
+
+# ---- layouts
+
+def claims(near, depth):
+    """Who claims whom, by the rule read literally: the earliest claimed node that may still claim takes its lowest unclaimed neighbour, one node
+    at a time; where none may, the lowest unclaimed node is a root. Answers each node's parent and the root of its cluster."""
+    claimed, parent, deep = [], {}, {}
+    while len(claimed) < len(near):
+        able = [(x, y) for x in claimed if deep[x] < depth for y in near[x] if y not in parent]
+        x, y = able[0] if able else (None, min(set(range(len(near))) - set(parent)))
+        parent[y], deep[y] = (x, deep[x] + 1) if able else (y, 0)
+        claimed.append(y)
+    root = {}
+    for p in claimed:
+        root[p] = p if parent[p] == p else root[parent[p]]
+    return parent, root
+
+
+def laid_out(plan, depth):
+    """The plan with its clusters laid out."""
+    parent, root = claims(plan.near, depth)
+    nodes = [(parent[p], start) for p, (_, start) in enumerate(plan.nodes)]
+    pairs = [frozenset((root[a], root[b])) for a, b, _ in plan.links]
+    links = [(a, b, int(len(pair) == 2 and pair not in pairs[:l])) for l, ((a, b, _), pair) in enumerate(zip(plan.links, pairs))]
+    return Run(plan.rounds, nodes, links)
+
+
+def lay_out(name, words, plan, depths):
+    def write_plan(file, comment, lines):
+        with open(os.path.join(HERE, "layout", file), "w") as f:
+            f.write("# " + comment + "\n" + "\n".join(lines) + "\n")
+
+    write_plan(name + ".hex", words, plan.plan_lines())
+    for depth in depths:
+        laid = laid_out(plan, depth)
+        roots = sum(parent == p for p, (parent, _) in enumerate(laid.nodes))
+        preferred = sum(flag for _, _, flag in laid.links)
+        write_plan("%s.%d.laid" % (name, depth), "%s at depth %d: clusters %d, preferred links %d" % (name, depth, roots, preferred), laid.plan_lines())
+        with open(os.path.join(HERE, "layout", "%s.%d.out" % (name, depth)), "w") as f:
+            f.write("\n".join(laid.report([])) + "\n")
+
+
+def wires(rounds, count, links):
+    """A plan whose parents and flags nobody filled in."""
+    return Run(rounds, [(OPEN, 100 * p + 100) for p in range(count)], [(a, b, 0) for a, b in links])
+
+
+GRID = [(p, p + 1) for p in range(64) if p % 8 < 7] + [(p, p + 8) for p in range(56)]
+lay_out("ring", "A ring of six, 0-1-5-4-3-2-0: node 5 is claimed before node 3, so at depth 3 it is 5 that claims node 4.",
+        wires(1, 6, [(0, 1), (0, 2), (1, 5), (2, 3), (3, 4), (4, 5)]), [2, 3])
+lay_out("joined-thrice", "At depth 1 three links join clusters 0 and 1: the first of them is preferred.",
+        wires(1, 6, [(0, 3), (0, 4), (1, 2), (1, 4), (2, 3), (2, 4), (3, 5), (4, 5)]), [1])
+lay_out("grid", "64 controllers, 8 by 8, each wired to those on its four sides.", wires(2, 64, GRID), [0, 1, 2, 14])

@@ -14,7 +14,7 @@ ghost use Rattle.tree.specs.Climb.{parentIn};
 ghost use Rattle.clusters.specs.Clusters.{rootsOf, rootAt, preferred, clusterAt, chosen, inside, firstInside, preferredBetween, notOne, firstNotOne, clusterCount};
 
 // The table of the roots of all nodes.
-fn root_table(parents: &[u8; 64], nodes: usize) -> [u8; 64]
+pub fn root_table(parents: &[u8; 64], nodes: usize) -> [u8; 64]
     ensures { λ r. ⌜ r ≡ rootsOf (now (parents .entry)) (min nodes 64) ⌝ }
 {
     let n = at_most(nodes, 64);
@@ -27,7 +27,8 @@ fn root_table(parents: &[u8; 64], nodes: usize) -> [u8; 64]
     roots
 }
 
-fn root_at(roots: &[u8; 64], node: u8) -> u8
+// The root of a node by the table; 64 for a number that has no entry.
+pub fn root_at(roots: &[u8; 64], node: u8) -> u8
     ensures { λ r. ⌜ r ≡ rootAt (now (roots .entry)) node ⌝ }
 {
     let at = node as usize;

@@ -9,6 +9,7 @@ pub mod Demand3
 pub mod Directions
 pub mod Effects
 pub mod Exactly
+pub mod Layouts
 pub mod Links
 pub mod Means
 pub mod Members

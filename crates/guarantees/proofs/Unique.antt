@@ -53,10 +53,18 @@ use Rattle.clusters.proofs.first_inside.Kinds as clusters-first-inside-kinds
 use Rattle.clusters.proofs.first_inside.Reads as clusters-first-inside-reads
 use Rattle.clusters.proofs.first_not_one.Kinds as clusters-first-not-one-kinds
 use Rattle.clusters.proofs.first_not_one.Reads as clusters-first-not-one-reads
+use Rattle.clusters.proofs.root_table.Kinds as clusters-root-table-kinds
+use Rattle.clusters.proofs.root_table.Reads as clusters-root-table-reads
+use Rattle.clusters.proofs.root_at.Kinds as clusters-root-at-kinds
+use Rattle.clusters.proofs.root_at.Reads as clusters-root-at-reads
 use Rattle.clusters.proofs.count.Kinds as clusters-count-kinds
 use Rattle.clusters.proofs.count.Reads as clusters-count-reads
 use Rattle.joined.proofs.first_unjoined.Kinds as joined-first-unjoined-kinds
 use Rattle.joined.proofs.first_unjoined.Reads as joined-first-unjoined-reads
+use Rattle.claims.proofs.parents.Kinds as claims-parents-kinds
+use Rattle.claims.proofs.parents.Reads as claims-parents-reads
+use Rattle.layout.proofs.layout.Kinds as layout-layout-kinds
+use Rattle.layout.proofs.layout.Reads as layout-layout-reads
 use Rattle.plan.proofs.read_plan.Kinds as plan-read-plan-kinds
 use Rattle.plan.proofs.read_plan.Reads as plan-read-plan-reads
 use Rattle.lockstep.proofs.mean.Kinds as lockstep-mean-kinds
@@ -159,10 +167,22 @@ use Rattle.text.proofs.word.Kinds as text-word-kinds
 use Rattle.text.proofs.word.Reads as text-word-reads
 use Rattle.text.proofs.line.Kinds as text-line-kinds
 use Rattle.text.proofs.line.Reads as text-line-reads
+use Rattle.report.proofs.whole.Kinds as report-whole-kinds
+use Rattle.report.proofs.whole.Reads as report-whole-reads
+use Rattle.report.proofs.end_only.Kinds as report-end-only-kinds
+use Rattle.report.proofs.end_only.Reads as report-end-only-reads
 use Rattle.report.proofs.trial.Kinds as report-trial-kinds
 use Rattle.report.proofs.trial.Reads as report-trial-reads
 use Rattle.teravulk.proofs.teravulk_trial.Kinds as teravulk-trial-kinds
 use Rattle.teravulk.proofs.teravulk_trial.Reads as teravulk-trial-reads
+use Rattle.teravulk.proofs.teravulk_layout.Kinds as teravulk-layout-kinds
+use Rattle.teravulk.proofs.teravulk_layout.Reads as teravulk-layout-reads
+use Rattle.input.proofs.decimal.Kinds as input-decimal-kinds
+use Rattle.input.proofs.decimal.Reads as input-decimal-reads
+use Rattle.commands.proofs.word_of.Kinds as commands-word-of-kinds
+use Rattle.commands.proofs.word_of.Reads as commands-word-of-reads
+use Rattle.commands.proofs.layout.Kinds as commands-layout-kinds
+use Rattle.commands.proofs.layout.Reads as commands-layout-reads
 
 -- of the same arguments the contract allows one result
 abbrev pub OneResult : (n : ℕ) (ps : List (PK n)) (r : RK n) → Out n ps r → Type 0
@@ -258,6 +278,12 @@ clusters-first-inside-one κs a x y s t p q = same p q
 pub clusters-first-not-one-one : OneResult _ clusters-first-not-one-kinds.ps clusters-first-not-one-kinds.r clusters-first-not-one-reads.Post
 clusters-first-not-one-one κs a x y s t p q = same p q
 
+pub clusters-root-table-one : OneResult _ clusters-root-table-kinds.ps clusters-root-table-kinds.r clusters-root-table-reads.Post
+clusters-root-table-one κs a x y s t p q = same p q
+
+pub clusters-root-at-one : OneResult _ clusters-root-at-kinds.ps clusters-root-at-kinds.r clusters-root-at-reads.Post
+clusters-root-at-one κs a x y s t p q = same p q
+
 pub clusters-count-one : OneResult _ clusters-count-kinds.ps clusters-count-kinds.r clusters-count-reads.Post
 clusters-count-one κs a x y s t p q = same p q
 
@@ -265,6 +291,14 @@ clusters-count-one κs a x y s t p q = same p q
 
 pub joined-first-unjoined-one : OneResult _ joined-first-unjoined-kinds.ps joined-first-unjoined-kinds.r joined-first-unjoined-reads.Post
 joined-first-unjoined-one κs a x y s t p q = same p q
+
+-- ---- claims, layout
+
+pub claims-parents-one : OneResult _ claims-parents-kinds.ps claims-parents-kinds.r claims-parents-reads.Post
+claims-parents-one κs a x y s t p q = same p q
+
+pub layout-layout-one : OneEnd _ layout-layout-kinds.ps layout-layout-kinds.r layout-layout-reads.Post (λ κs s. now (s .1 .1 .0))
+layout-layout-one κs a x y s t p q = (same (p .0) (q .0), same (p .1 .0) (q .1 .0))
 
 -- ---- plan
 
@@ -431,8 +465,29 @@ text-word-one κs a x y s t p q = (same (p .place) (q .place), same (p .held) (q
 pub text-line-one : OneEnd _ text-line-kinds.ps text-line-kinds.r text-line-reads.Post (λ κs s. now (s .0))
 text-line-one κs a x y s t p q = (same (p .place) (q .place), same (p .held) (q .held))
 
+pub report-whole-one : OneEnd _ report-whole-kinds.ps report-whole-kinds.r report-whole-reads.Post (λ κs s. now (s .0))
+report-whole-one κs a x y s t p q = (same (p .0) (q .0), same (p .1) (q .1))
+
+pub report-end-only-one : OneEnd _ report-end-only-kinds.ps report-end-only-kinds.r report-end-only-reads.Post (λ κs s. now (s .0))
+report-end-only-one κs a x y s t p q = (same (p .0) (q .0), same (p .1 .0) (q .1 .0))
+
 pub report-trial-one : OneEnd _ report-trial-kinds.ps report-trial-kinds.r report-trial-reads.Post (λ κs s. now (s .1 .0))
 report-trial-one κs a x y s t p q = (same (p .count) (q .count), same (p .held) (q .held))
 
 pub teravulk-trial-one : OneEnd _ teravulk-trial-kinds.ps teravulk-trial-kinds.r teravulk-trial-reads.Post (λ κs s. now (s .1 .0))
 teravulk-trial-one κs a x y s t p q = (same (p .0) (q .0), same (p .1 .0) (q .1 .0))
+
+pub teravulk-layout-one : OneEnd _ teravulk-layout-kinds.ps teravulk-layout-kinds.r teravulk-layout-reads.Post {C = List ℕ × ℕ} (λ κs s. (now (s .1 .1 .0), now (s .1 .1 .1 .0)))
+teravulk-layout-one κs a x y s t p q = (same (p .0) (q .0), λ i. (same (p .1 .1 .0) (q .1 .1 .0) i, same (p .1 .0) (q .1 .0) i))
+
+-- ---- input, commands
+
+pub input-decimal-one : OneResult _ input-decimal-kinds.ps input-decimal-kinds.r input-decimal-reads.Post
+input-decimal-one κs a x y s t p q = same p q
+
+pub commands-word-of-one : OneResult _ commands-word-of-kinds.ps commands-word-of-kinds.r commands-word-of-reads.Post
+commands-word-of-one κs a x y s t p q = same p q
+
+pub commands-layout-one : OneEnd _ commands-layout-kinds.ps commands-layout-kinds.r commands-layout-reads.Post {C = List ℕ × List ℕ} (λ κs s. (now (s .1 .1 .0), now (s .1 .1 .1 .0)))
+commands-layout-one κs a x y s t p q =
+    (same (p .0 .counts) (q .0 .counts), λ i. (same (p .0 .on-output) (q .0 .on-output) i, same (p .0 .on-errors) (q .0 .on-errors) i))

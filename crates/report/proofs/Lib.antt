@@ -1,4 +1,5 @@
 pub mod Example
+pub mod Pages
 pub mod Places
 pub mod Plans
 pub mod Printed

@@ -48,10 +48,15 @@ more-digits (suc n) h =
 
 -- ---- what they are
 
+-- the digits behind others go on from what those said
+pub value-append : (v : ℕ) (ds es : List ℕ) → valueFrom v (ds ++ es) ≡ valueFrom (valueFrom v ds) es
+unfolding valueFrom
+value-append v [] es = refl
+value-append v (d ∷ ds) es = value-append (v * 10 + (d - 48)) ds es
+
 pub value-more : (v : ℕ) (ds : List ℕ) (d : ℕ) → valueFrom v (ds ++ glyph d ∷ []) ≡ valueFrom v ds * 10 + d
 unfolding valueFrom glyph
-value-more v [] d = omega arith
-value-more v (e ∷ ds) d = value-more (v * 10 + (e - 48)) ds d
+value-more v ds d = value-append v ds (glyph d ∷ []) ∙ omega arith
 
 pub one-is : (d : ℕ) → d < 10 → IsDecimal d (glyph d ∷ [])
 unfolding valueFrom glyph

@@ -26,7 +26,7 @@ ending (d ∷ e ∷ ds) h =
     record { front = d ∷ r .front; last = r .last; is = ap (λ l. d ∷ l) (r .is) }
 
 -- digits only add to what was said before them
-value-grows : (v : ℕ) (ds : List ℕ) → v ≤ valueFrom v ds
+pub value-grows : (v : ℕ) (ds : List ℕ) → v ≤ valueFrom v ds
 unfolding valueFrom
 value-grows v [] = le-refl v
 value-grows v (d ∷ ds) = omega (arith, value-grows (v * 10 + (d - 48)) ds)

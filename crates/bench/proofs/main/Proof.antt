@@ -1,17 +1,11 @@
--- `main`: what was read is within the buffer, and what `trial` answers within the page.
+-- `main`: what `trial` answers is within the page.
 -- Assumes nothing.
-use native.Mathlib.Omega.{arith}
 use mathlib.Core.Path.{sym}
 use borrow.Author.Needs.{needs}
 use lib.Seq.{length-take-le}
 use Rattle.report.proofs.Printed.{answer-within}
 use Rattle.bench.proofs.main.Statement.{statement}
 use Rattle.bench.proofs.main.Tie as tie
-
-slice-aggregate-trial : tie.Need-slice-aggregate-trial
-slice-aggregate-trial c =
-    let read = c .before .before .before in
-    sym (length-take-le (read .read-all .result .count) (read .read-all .last .0) (omega (arith, read .read-all .ensures, read .read-all .kept .0)))
 
 array-share-prefix-page : tie.Need-array-share-prefix-page
 array-share-prefix-page c = answer-within (c .before .trial .ensures)
@@ -31,7 +25,7 @@ main-spec =
     (λ c κs. search needs)
     (λ c. search needs)
     (λ c. search needs)
-    slice-aggregate-trial
+    (λ c. search needs)
     (λ c. search needs)
     (λ c κs. search needs)
     array-share-prefix-page

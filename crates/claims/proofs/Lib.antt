@@ -1,0 +1,11 @@
+pub mod Begun
+pub mod Clauses
+pub mod Each
+pub mod Layouts
+pub mod Marks
+pub mod Puts
+pub mod Sound
+pub mod Steps
+pub mod Turns
+pub mod Unique
+pub mod Worked

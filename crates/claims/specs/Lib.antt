@@ -1,0 +1,3 @@
+pub mod Claimed
+pub mod Claiming
+pub mod Sound
