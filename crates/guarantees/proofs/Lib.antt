@@ -8,6 +8,7 @@ pub mod Demand1
 pub mod Demand3
 pub mod Directions
 pub mod Effects
+pub mod Exact
 pub mod Exactly
 pub mod Links
 pub mod Means
@@ -17,6 +18,8 @@ pub mod Needs
 pub mod Only
 pub mod Outcomes
 pub mod Plans
+pub mod Promise
+pub mod Promised
 pub mod Reached
 pub mod Records
 pub mod Seats

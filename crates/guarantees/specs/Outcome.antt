@@ -4,7 +4,6 @@
 -- Assumes nothing.
 use Prim.Native.Nat.{ℕ, _+_, _<_, _≤_}
 use mathlib.Core.Path.{_≡_}
-use mathlib.Core.Bool.{true, false}
 use mathlib.Core.List.{List, [], _∷_}
 use lib.ListN.{length, getD}
 use Rattle.laws.specs.Choice.{ifEq}
@@ -21,9 +20,17 @@ use Rattle.synchronizer.specs.declared.State.{State}
 use Rattle.synchronizer.specs.declared.Done.{Done}
 use Rattle.synchronizer.specs.declared.Acted.{Acted}
 use Rattle.synchronizer.specs.declared.Ran.{Ran}
-use Rattle.synchronizer.specs.Valid.{validState, Sized}
-use Rattle.synchronizer.specs.Entry.{inRange, done, acted, ran}
+use Rattle.network.specs.Valid.{Clauses}
+use Rattle.synchronizer.specs.Valid.{StateClauses, Sized}
+use Rattle.synchronizer.specs.Entry.{done, acted, ran}
 use Rattle.guarantees.specs.Reading.{netOf, kindOf, read}
+
+-- ---- 17
+
+-- 17 is not given: every clause of it holds of the network, and every clause of it holds of the state
+pub record Within (net : Network) (s : State) : Type 0 where
+  pub network : Clauses net
+  pub state : StateClauses net s
 
 -- ---- one action
 
@@ -32,13 +39,13 @@ pub record Judged (net : Network) (s : State) (a : Act) (n : ℕ) (s′ : State)
   pub number : n ≡ answer (netOf net) (read net s) a
   pub follows : read net s′ ≡ step (netOf net) (read net s) a
   -- and s′ is a state within the ranges of 17
-  pub valid : validState net s′ ≡ true
+  pub valid : StateClauses net s′
   pub sized : Sized s′
 
 -- each of the twenty methods
 pub data MethodOutcome (net : Network) (s : State) (a : Act) (r : Done) : Type 0 where
-  outOfRange : inRange net s ≡ false → r ≡ done 17 s → MethodOutcome net s a r
-  judged : inRange net s ≡ true → Judged net s a (r .answer) (r .state) → MethodOutcome net s a r
+  outOfRange : (Within net s → ⊥) → r ≡ done 17 s → MethodOutcome net s a r
+  judged : Within net s → Judged net s a (r .answer) (r .state) → MethodOutcome net s a r
 
 -- ---- records
 
@@ -58,10 +65,10 @@ pub data CutAt (bytes : List ℕ) (at : ℕ) : Type 0 where
 
 -- one action from bytes: "with answer 0 the place is the bytes read"; every refusal has place 0
 pub data ActOutcome (net : Network) (s : State) (bytes : List ℕ) (r : Acted) : Type 0 where
-  outOfRange : inRange net s ≡ false → r ≡ acted 17 0 s → ActOutcome net s bytes r
-  unknown : inRange net s ≡ true → UnknownAt bytes 0 → r ≡ acted 11 0 s → ActOutcome net s bytes r
-  cut : inRange net s ≡ true → CutAt bytes 0 → r ≡ acted 12 0 s → ActOutcome net s bytes r
-  judged : inRange net s ≡ true → (a : Act) (width : ℕ) → Names bytes 0 a width → Judged net s a (r .answer) (r .state)
+  outOfRange : (Within net s → ⊥) → r ≡ acted 17 0 s → ActOutcome net s bytes r
+  unknown : Within net s → UnknownAt bytes 0 → r ≡ acted 11 0 s → ActOutcome net s bytes r
+  cut : Within net s → CutAt bytes 0 → r ≡ acted 12 0 s → ActOutcome net s bytes r
+  judged : Within net s → (a : Act) (width : ℕ) → Names bytes 0 a width → Judged net s a (r .answer) (r .state)
       → r .place ≡ ifEq (r .answer) 0 width 0 → ActOutcome net s bytes r
 
 -- ---- lists
@@ -86,9 +93,9 @@ pub record Listed (net : Network) (s : State) (bytes : List ℕ) (r : Ran) : Typ
   pub counted : r .taken ≡ length actions
   pub follows : read net (r .state) ≡ run (netOf net) (read net s) actions
   pub stopped : Stopped (netOf net) (read net (r .state)) bytes (r .place) (r .answer)
-  pub valid : validState net (r .state) ≡ true
+  pub valid : StateClauses net (r .state)
   pub sized : Sized (r .state)
 
 pub data ListOutcome (net : Network) (s : State) (bytes : List ℕ) (r : Ran) : Type 0 where
-  outOfRange : inRange net s ≡ false → r ≡ ran 17 0 0 s → ListOutcome net s bytes r
-  listed : inRange net s ≡ true → Listed net s bytes r → ListOutcome net s bytes r
+  outOfRange : (Within net s → ⊥) → r ≡ ran 17 0 0 s → ListOutcome net s bytes r
+  listed : Within net s → Listed net s bytes r → ListOutcome net s bytes r

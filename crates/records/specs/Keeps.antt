@@ -13,10 +13,6 @@ use Rattle.records.specs.Record.{bodyLength}
 use Rattle.records.specs.Reader.{closesOf}
 use Rattle.records.specs.Plan.{Plan, roundsBytes, nodeBytes, linkBytes, bytesOf, networkOf, Keeps1to5, LinkFits, Rising}
 
--- what is handed in is bytes
-abbrev pub Bytes : List ℕ → Type 0
-Bytes s = (k : ℕ) → getD s k 0 < 256
-
 -- ---- one record after others
 
 -- the bytes of one record

@@ -44,7 +44,7 @@ returns c =
     let wrote = c .before .before .write-page .ensures in
     let start = c .before .before .before .before .before .before .args in
     let shown = no-room (start .out .now) (textOf (start .bytes .now)) (omega (arith, all-of-it (wrote .0) (wrote .1))) in
-    record { count = shown .0; held = shown .1; at-most-2048 = wrote .1 }
+    record { count = shown .0; held = shown .1; at-most-2048 = wrote .1; small = λ k. omega (arith, c .before .before .before .before .before .shared-slice-known .given k) }
 
 slice-aggregate-word : tie.Need-slice-aggregate-word
 slice-aggregate-word c =
@@ -57,7 +57,7 @@ returns-2 c =
     let start = c .before .before .before .before .before .before .before .before .before .before .before .args in
     let copied = rw (stands-there (wrote .0) (wrote .1)) at (c .before .before .word .ensures) in
     let shown = has-room (start .out .now) (textOf (start .bytes .now)) (omega (arith, all-of-it (wrote .0) (wrote .1))) copied in
-    record { count = shown .0; held = shown .1; at-most-2048 = wrote .1 }
+    record { count = shown .0; held = shown .1; at-most-2048 = wrote .1; small = λ k. omega (arith, c .before .before .before .before .before .before .before .before .before .before .shared-slice-known .given k) }
 
 pub trial-spec : {M : Type 1} → statement M
 trial-spec =
