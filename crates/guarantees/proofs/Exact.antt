@@ -39,7 +39,7 @@ use Rattle.network.specs.declared.Network.{Network}
 use Rattle.actions.specs.declared.Kind.{Kind}
 use Rattle.actions.specs.declared.Kind.the-variants.{Output, PacketSent}
 use Rattle.actions.specs.Kinds.{count, kinds}
-use Rattle.queue.specs.Queue.{headOf, packetFirst, ackFirst, roomAnswer, pushed, movedUp, popped}
+use Rattle.queue.specs.Queue.{headOf, packetFirst, ackFirst, roomAnswer, pushed, movedUp, popped, heardIn}
 use Rattle.synchronizer.specs.declared.State.{State}
 use Rattle.synchronizer.specs.declared.Ran.{Ran}
 use Rattle.synchronizer.specs.After.{stateOf}
@@ -133,7 +133,7 @@ module _ (net : Network) (rounds : 0 < net .rounds) (nodes : 0 < net .nodes) (li
           sort-of {len = getD {A = ℕ} (set (replicate 256 0) 0 2) (suc d) 0} {j = j} {sort = getD {A = ℕ} (set (set (replicate 512 0) 0 1) 1 1) (suc d * 2 + j) 0} (λ waits. absurd (omega (arith, len))) (λ _. sort)
 
 T-valid : (validNetwork T ≡ true) × (0 < T .rounds) × (0 < T .nodes) × (0 < T .links)
-unfolding full ifB ifLt ifEq both allBelow sumBelow countBelow foldBelow firstOf overBelow listBelow pickBelow total digit member inserted removed sizeOf lowestOf allIn sumIn membersOf valuesIn towards linkGives linkSet childSet withSets added linked adopted withinLimits nodeFits rises linkFits linkRises linkStands agrees validNetwork bodyLength recordAt records-readAt roundsRule nodeRule followsOf linkRule endRule zeroNetwork roundsAdded nodeAdded linkAdded turn listsFrom listsOf pairIs joins linkBetween hasLink climb rootOf rootFrom depthFrom depthOf LeadsIn untied firstUntied Tied firstLost rootsOf rootAt inside firstInside chosen preferredBetween notOne firstNotOne clusterCount clusterOf JoinsTwo PairHasOne follow across pass joinedMarks firstUnjoined checksOf planOf shareOf ruleOf meanOf nextBy roundBy roundsBy lockstepOf tableNumber tableOf numberOf indexOf kindAt cellOf placeOf ownOf knowsBy mayGoBy needOf everyOf doesOf namesOf bodyOf actAt actions-readAt joined lanesOf wiresOf isRoot aroundOf standsIn startsRound countAnswer childrenHave sendersHave everyHas headOf packetFirst ackFirst roomAnswer queueAnswer ownIn legalAnswer needAnswer answerIn pushed movedUp popped meanHeard effectIn counted afterIn freshWith startOf inRange doneIn doneOf actedAs recordIn actIn actOf listFrom listOf
+unfolding full ifB ifLt ifEq both allBelow sumBelow countBelow foldBelow firstOf overBelow listBelow pickBelow total digit member inserted removed sizeOf lowestOf allIn sumIn membersOf valuesIn towards linkGives linkSet childSet withSets added linked adopted withinLimits nodeFits rises linkFits linkRises linkStands agrees validNetwork bodyLength recordAt records-readAt roundsRule nodeRule followsOf linkRule endRule zeroNetwork roundsAdded nodeAdded linkAdded turn listsFrom listsOf pairIs joins linkBetween hasLink climb rootOf rootFrom depthFrom depthOf LeadsIn untied firstUntied Tied firstLost rootsOf rootAt inside firstInside chosen preferredBetween notOne firstNotOne clusterCount clusterOf JoinsTwo PairHasOne follow across pass joinedMarks firstUnjoined checksOf planOf shareOf ruleOf meanOf nextBy roundBy roundsBy lockstepOf tableNumber tableOf numberOf indexOf kindAt cellOf placeOf ownOf knowsBy mayGoBy needOf everyOf doesOf namesOf bodyOf actAt actions-readAt joined lanesOf wiresOf isRoot aroundOf standsIn startsRound countAnswer childrenHave sendersHave everyHas headOf packetFirst ackFirst roomAnswer queueAnswer ownIn legalAnswer needAnswer answerIn pushed movedUp popped heardIn meanHeard effectIn counted afterIn freshWith startOf inRange doneIn doneOf actedAs recordIn actIn actOf listFrom listOf
 T-valid = (refl, omega arith, omega arith, omega arith)
 
 full-in-range : inRange T full ≡ true
@@ -155,7 +155,7 @@ unfolding listOf
 by-list bytes n e = ap (λ (d : Ran). d .answer) (ifB-yes (inRange T full) _ _ full-in-range) ∙ e
 
 pub method-exact : Each methodNumbers (λ n. (net : Network) × (s : State) × (k : Kind) × (p : ℕ) × (q : ℕ) × (doneOf net s k p q .answer ≡ n))
-unfolding full ifB ifLt ifEq both allBelow sumBelow countBelow foldBelow firstOf overBelow listBelow pickBelow total digit member inserted removed sizeOf lowestOf allIn sumIn membersOf valuesIn towards linkGives linkSet childSet withSets added linked adopted withinLimits nodeFits rises linkFits linkRises linkStands agrees validNetwork bodyLength recordAt records-readAt roundsRule nodeRule followsOf linkRule endRule zeroNetwork roundsAdded nodeAdded linkAdded turn listsFrom listsOf pairIs joins linkBetween hasLink climb rootOf rootFrom depthFrom depthOf LeadsIn untied firstUntied Tied firstLost rootsOf rootAt inside firstInside chosen preferredBetween notOne firstNotOne clusterCount clusterOf JoinsTwo PairHasOne follow across pass joinedMarks firstUnjoined checksOf planOf shareOf ruleOf meanOf nextBy roundBy roundsBy lockstepOf tableNumber tableOf numberOf indexOf kindAt cellOf placeOf ownOf knowsBy mayGoBy needOf everyOf doesOf namesOf bodyOf actAt actions-readAt joined lanesOf wiresOf isRoot aroundOf standsIn startsRound countAnswer childrenHave sendersHave everyHas headOf packetFirst ackFirst roomAnswer queueAnswer ownIn legalAnswer needAnswer answerIn pushed movedUp popped meanHeard effectIn counted afterIn freshWith startOf inRange doneIn doneOf actedAs recordIn actIn actOf listFrom listOf
+unfolding full ifB ifLt ifEq both allBelow sumBelow countBelow foldBelow firstOf overBelow listBelow pickBelow total digit member inserted removed sizeOf lowestOf allIn sumIn membersOf valuesIn towards linkGives linkSet childSet withSets added linked adopted withinLimits nodeFits rises linkFits linkRises linkStands agrees validNetwork bodyLength recordAt records-readAt roundsRule nodeRule followsOf linkRule endRule zeroNetwork roundsAdded nodeAdded linkAdded turn listsFrom listsOf pairIs joins linkBetween hasLink climb rootOf rootFrom depthFrom depthOf LeadsIn untied firstUntied Tied firstLost rootsOf rootAt inside firstInside chosen preferredBetween notOne firstNotOne clusterCount clusterOf JoinsTwo PairHasOne follow across pass joinedMarks firstUnjoined checksOf planOf shareOf ruleOf meanOf nextBy roundBy roundsBy lockstepOf tableNumber tableOf numberOf indexOf kindAt cellOf placeOf ownOf knowsBy mayGoBy needOf everyOf doesOf namesOf bodyOf actAt actions-readAt joined lanesOf wiresOf isRoot aroundOf standsIn startsRound countAnswer childrenHave sendersHave everyHas headOf packetFirst ackFirst roomAnswer queueAnswer ownIn legalAnswer needAnswer answerIn pushed movedUp popped heardIn meanHeard effectIn counted afterIn freshWith startOf inRange doneIn doneOf actedAs recordIn actIn actOf listFrom listOf
 method-exact = (
   (T, full, Output, 1, 1, by-method Output 1 1 0 refl),
   (
@@ -177,7 +177,7 @@ method-exact = (
 )
 
 pub action-exact : Each actionNumbers (λ n. (net : Network) × (s : State) × (bytes : List ℕ) × (actOf net s bytes .answer ≡ n))
-unfolding full ifB ifLt ifEq both allBelow sumBelow countBelow foldBelow firstOf overBelow listBelow pickBelow total digit member inserted removed sizeOf lowestOf allIn sumIn membersOf valuesIn towards linkGives linkSet childSet withSets added linked adopted withinLimits nodeFits rises linkFits linkRises linkStands agrees validNetwork bodyLength recordAt records-readAt roundsRule nodeRule followsOf linkRule endRule zeroNetwork roundsAdded nodeAdded linkAdded turn listsFrom listsOf pairIs joins linkBetween hasLink climb rootOf rootFrom depthFrom depthOf LeadsIn untied firstUntied Tied firstLost rootsOf rootAt inside firstInside chosen preferredBetween notOne firstNotOne clusterCount clusterOf JoinsTwo PairHasOne follow across pass joinedMarks firstUnjoined checksOf planOf shareOf ruleOf meanOf nextBy roundBy roundsBy lockstepOf tableNumber tableOf numberOf indexOf kindAt cellOf placeOf ownOf knowsBy mayGoBy needOf everyOf doesOf namesOf bodyOf actAt actions-readAt joined lanesOf wiresOf isRoot aroundOf standsIn startsRound countAnswer childrenHave sendersHave everyHas headOf packetFirst ackFirst roomAnswer queueAnswer ownIn legalAnswer needAnswer answerIn pushed movedUp popped meanHeard effectIn counted afterIn freshWith startOf inRange doneIn doneOf actedAs recordIn actIn actOf listFrom listOf
+unfolding full ifB ifLt ifEq both allBelow sumBelow countBelow foldBelow firstOf overBelow listBelow pickBelow total digit member inserted removed sizeOf lowestOf allIn sumIn membersOf valuesIn towards linkGives linkSet childSet withSets added linked adopted withinLimits nodeFits rises linkFits linkRises linkStands agrees validNetwork bodyLength recordAt records-readAt roundsRule nodeRule followsOf linkRule endRule zeroNetwork roundsAdded nodeAdded linkAdded turn listsFrom listsOf pairIs joins linkBetween hasLink climb rootOf rootFrom depthFrom depthOf LeadsIn untied firstUntied Tied firstLost rootsOf rootAt inside firstInside chosen preferredBetween notOne firstNotOne clusterCount clusterOf JoinsTwo PairHasOne follow across pass joinedMarks firstUnjoined checksOf planOf shareOf ruleOf meanOf nextBy roundBy roundsBy lockstepOf tableNumber tableOf numberOf indexOf kindAt cellOf placeOf ownOf knowsBy mayGoBy needOf everyOf doesOf namesOf bodyOf actAt actions-readAt joined lanesOf wiresOf isRoot aroundOf standsIn startsRound countAnswer childrenHave sendersHave everyHas headOf packetFirst ackFirst roomAnswer queueAnswer ownIn legalAnswer needAnswer answerIn pushed movedUp popped heardIn meanHeard effectIn counted afterIn freshWith startOf inRange doneIn doneOf actedAs recordIn actIn actOf listFrom listOf
 action-exact = (
   (T, full, 16 ∷ 1 ∷ [], by-action (16 ∷ 1 ∷ []) 0 refl),
   (
@@ -205,7 +205,7 @@ action-exact = (
 )
 
 pub list-exact : Each actionNumbers (λ n. (net : Network) × (s : State) × (bytes : List ℕ) × (listOf net s bytes .answer ≡ n))
-unfolding full ifB ifLt ifEq both allBelow sumBelow countBelow foldBelow firstOf overBelow listBelow pickBelow total digit member inserted removed sizeOf lowestOf allIn sumIn membersOf valuesIn towards linkGives linkSet childSet withSets added linked adopted withinLimits nodeFits rises linkFits linkRises linkStands agrees validNetwork bodyLength recordAt records-readAt roundsRule nodeRule followsOf linkRule endRule zeroNetwork roundsAdded nodeAdded linkAdded turn listsFrom listsOf pairIs joins linkBetween hasLink climb rootOf rootFrom depthFrom depthOf LeadsIn untied firstUntied Tied firstLost rootsOf rootAt inside firstInside chosen preferredBetween notOne firstNotOne clusterCount clusterOf JoinsTwo PairHasOne follow across pass joinedMarks firstUnjoined checksOf planOf shareOf ruleOf meanOf nextBy roundBy roundsBy lockstepOf tableNumber tableOf numberOf indexOf kindAt cellOf placeOf ownOf knowsBy mayGoBy needOf everyOf doesOf namesOf bodyOf actAt actions-readAt joined lanesOf wiresOf isRoot aroundOf standsIn startsRound countAnswer childrenHave sendersHave everyHas headOf packetFirst ackFirst roomAnswer queueAnswer ownIn legalAnswer needAnswer answerIn pushed movedUp popped meanHeard effectIn counted afterIn freshWith startOf inRange doneIn doneOf actedAs recordIn actIn actOf listFrom listOf
+unfolding full ifB ifLt ifEq both allBelow sumBelow countBelow foldBelow firstOf overBelow listBelow pickBelow total digit member inserted removed sizeOf lowestOf allIn sumIn membersOf valuesIn towards linkGives linkSet childSet withSets added linked adopted withinLimits nodeFits rises linkFits linkRises linkStands agrees validNetwork bodyLength recordAt records-readAt roundsRule nodeRule followsOf linkRule endRule zeroNetwork roundsAdded nodeAdded linkAdded turn listsFrom listsOf pairIs joins linkBetween hasLink climb rootOf rootFrom depthFrom depthOf LeadsIn untied firstUntied Tied firstLost rootsOf rootAt inside firstInside chosen preferredBetween notOne firstNotOne clusterCount clusterOf JoinsTwo PairHasOne follow across pass joinedMarks firstUnjoined checksOf planOf shareOf ruleOf meanOf nextBy roundBy roundsBy lockstepOf tableNumber tableOf numberOf indexOf kindAt cellOf placeOf ownOf knowsBy mayGoBy needOf everyOf doesOf namesOf bodyOf actAt actions-readAt joined lanesOf wiresOf isRoot aroundOf standsIn startsRound countAnswer childrenHave sendersHave everyHas headOf packetFirst ackFirst roomAnswer queueAnswer ownIn legalAnswer needAnswer answerIn pushed movedUp popped heardIn meanHeard effectIn counted afterIn freshWith startOf inRange doneIn doneOf actedAs recordIn actIn actOf listFrom listOf
 list-exact = (
   (T, full, 16 ∷ 1 ∷ [], by-list (16 ∷ 1 ∷ []) 0 refl),
   (

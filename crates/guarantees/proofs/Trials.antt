@@ -36,7 +36,7 @@ use Rattle.synchronizer.specs.Start.{freshWith, startOf}
 use Rattle.synchronizer.specs.Entry.{inRange, doneIn, doneOf, actedAs, recordIn, actIn, actOf, listFrom, listOf}
 use Rattle.laws.proofs.Choice.{ifB-yes, both-yes}
 use Rattle.network.specs.declared.Network.{Network}
-use Rattle.queue.specs.Queue.{headOf, packetFirst, ackFirst, roomAnswer, pushed, movedUp, popped}
+use Rattle.queue.specs.Queue.{headOf, packetFirst, ackFirst, roomAnswer, pushed, movedUp, popped, heardIn}
 use Rattle.records.specs.declared.Planned.{Planned}
 use Rattle.synchronizer.specs.declared.Done.{Done}
 use Rattle.synchronizer.proofs.Keeps.{start-valid}
@@ -65,7 +65,7 @@ Holds [] = Unit {0}
 Holds (t ∷ ts) = (given t ≡ t .ends) × Holds ts
 
 pub starred-hold : Holds starred
-unfolding given quick ended ifB ifLt ifEq both allBelow sumBelow countBelow foldBelow firstOf overBelow listBelow pickBelow total digit member inserted removed sizeOf lowestOf allIn sumIn membersOf valuesIn towards linkGives linkSet childSet withSets added linked adopted withinLimits nodeFits rises linkFits linkRises linkStands agrees validNetwork bodyLength recordAt records-readAt roundsRule nodeRule followsOf linkRule endRule zeroNetwork roundsAdded nodeAdded linkAdded turn listsFrom listsOf pairIs joins linkBetween hasLink climb rootOf rootFrom depthFrom depthOf LeadsIn untied firstUntied Tied firstLost rootsOf rootAt inside firstInside chosen preferredBetween notOne firstNotOne clusterCount clusterOf JoinsTwo PairHasOne follow across pass joinedMarks firstUnjoined checksOf planOf shareOf ruleOf meanOf nextBy roundBy roundsBy lockstepOf tableNumber tableOf numberOf indexOf kindAt cellOf placeOf ownOf knowsBy mayGoBy needOf everyOf doesOf namesOf bodyOf actAt actions-readAt joined lanesOf wiresOf isRoot aroundOf standsIn startsRound countAnswer childrenHave sendersHave everyHas headOf packetFirst ackFirst roomAnswer queueAnswer ownIn legalAnswer needAnswer answerIn pushed movedUp popped meanHeard effectIn counted afterIn freshWith startOf inRange doneIn doneOf actedAs recordIn actIn actOf listFrom listOf
+unfolding given quick ended ifB ifLt ifEq both allBelow sumBelow countBelow foldBelow firstOf overBelow listBelow pickBelow total digit member inserted removed sizeOf lowestOf allIn sumIn membersOf valuesIn towards linkGives linkSet childSet withSets added linked adopted withinLimits nodeFits rises linkFits linkRises linkStands agrees validNetwork bodyLength recordAt records-readAt roundsRule nodeRule followsOf linkRule endRule zeroNetwork roundsAdded nodeAdded linkAdded turn listsFrom listsOf pairIs joins linkBetween hasLink climb rootOf rootFrom depthFrom depthOf LeadsIn untied firstUntied Tied firstLost rootsOf rootAt inside firstInside chosen preferredBetween notOne firstNotOne clusterCount clusterOf JoinsTwo PairHasOne follow across pass joinedMarks firstUnjoined checksOf planOf shareOf ruleOf meanOf nextBy roundBy roundsBy lockstepOf tableNumber tableOf numberOf indexOf kindAt cellOf placeOf ownOf knowsBy mayGoBy needOf everyOf doesOf namesOf bodyOf actAt actions-readAt joined lanesOf wiresOf isRoot aroundOf standsIn startsRound countAnswer childrenHave sendersHave everyHas headOf packetFirst ackFirst roomAnswer queueAnswer ownIn legalAnswer needAnswer answerIn pushed movedUp popped heardIn meanHeard effectIn counted afterIn freshWith startOf inRange doneIn doneOf actedAs recordIn actIn actOf listFrom listOf
 starred-hold = (
   quick-is T-lockstep refl refl refl,
   (

@@ -28,7 +28,7 @@ use Rattle.lockstep.specs.Rule.{shareOf, ruleOf}
 use Rattle.actions.specs.Kinds.{numberOf, indexOf, kindAt, cellOf}
 use Rattle.actions.specs.Table.{placeOf, ownOf, knowsBy, mayGoBy, needOf, everyOf, doesOf}
 use Rattle.actions.specs.Records as actions
-use Rattle.queue.specs.Queue.{headOf, packetFirst, ackFirst, roomAnswer, pushed, movedUp, popped}
+use Rattle.queue.specs.Queue.{headOf, packetFirst, ackFirst, roomAnswer, pushed, movedUp, popped, heardIn}
 use Rattle.synchronizer.specs.declared.Done.{Done}
 use Rattle.synchronizer.specs.Wires.{joined, lanesOf, wiresOf, isRoot, aroundOf}
 use Rattle.counts.specs.Counts.{childrenHave}
@@ -64,7 +64,7 @@ unfolding net example planOf checksOf listsOf listsFrom turn readAt recordAt bod
 plan-read = record { text = refl; long = refl; valid = refl }
 
 run-written : runText net 9 (listFrom (suc (length (drop 9 example))) (wiresOf net) (freshWith (net .starts)) (drop 9 example) 0 0) ≡ output
-unfolding net example output planOf checksOf listsOf listsFrom turn readAt recordAt bodyLength ifLt ifEq ifB both zeroNetwork roundsRule nodeRule followsOf rises linkRule endRule roundsAdded nodeAdded linkAdded withSets towards linkGives linkSet childSet firstUntied untied hasLink linkBetween joins pairIs firstOf firstLost rootFrom firstInside firstNotOne firstUnjoined joinedMarks pass across follow foldBelow listBelow allBelow pickBelow member digit inserted allIn membersOf valuesIn clusterCount countBelow sumBelow shareOf ruleOf total numberOf indexOf kindAt cellOf placeOf ownOf knowsBy mayGoBy needOf everyOf doesOf actions.namesOf actions.bodyOf actions.actAt actions.readAt joined lanesOf wiresOf isRoot aroundOf standsIn startsRound countAnswer childrenHave sendersHave everyHas headOf packetFirst ackFirst roomAnswer queueAnswer ownIn legalAnswer needAnswer answerIn pushed movedUp popped meanHeard effectIn counted afterIn freshWith doneIn actedAs recordIn actIn listFrom glyph digitsIn decimal fields line nodeLines runText
+unfolding net example output planOf checksOf listsOf listsFrom turn readAt recordAt bodyLength ifLt ifEq ifB both zeroNetwork roundsRule nodeRule followsOf rises linkRule endRule roundsAdded nodeAdded linkAdded withSets towards linkGives linkSet childSet firstUntied untied hasLink linkBetween joins pairIs firstOf firstLost rootFrom firstInside firstNotOne firstUnjoined joinedMarks pass across follow foldBelow listBelow allBelow pickBelow member digit inserted allIn membersOf valuesIn clusterCount countBelow sumBelow shareOf ruleOf total numberOf indexOf kindAt cellOf placeOf ownOf knowsBy mayGoBy needOf everyOf doesOf actions.namesOf actions.bodyOf actions.actAt actions.readAt joined lanesOf wiresOf isRoot aroundOf standsIn startsRound countAnswer childrenHave sendersHave everyHas headOf packetFirst ackFirst roomAnswer queueAnswer ownIn legalAnswer needAnswer answerIn pushed movedUp popped heardIn meanHeard effectIn counted afterIn freshWith doneIn actedAs recordIn actIn listFrom glyph digitsIn decimal fields line nodeLines runText
 run-written = refl
 
 pub example-text : textOf example ≡ output

@@ -299,7 +299,6 @@ impl State {
         let mut slots = self.slots;
         let mut values = self.values;
         if in_range(net, &counts, &lens, &sorts, &loads, &slots, &values) {
-            let bodies = actions::bodies();
             let parents = net.parents;
             let lowers = net.lowers;
             let uppers = net.uppers;
@@ -308,7 +307,6 @@ impl State {
             let preferred = net.preferred;
             let lanes = lanes_of(&lowers, &uppers, net.links);
             let ended = go_through(
-                &bodies,
                 bytes,
                 net.nodes,
                 net.rounds,
