@@ -134,3 +134,10 @@ pub fn report(tally: &Tally) {
     write(b"\ndifferences: ", count(tally, DIFFERENT));
     io::write_all(STDOUT_FILENO, b"\n");
 }
+
+// How many trials had a difference planted, and how many differences were found in them.
+pub fn report_planted(tally: &Tally) {
+    write(b"planted: ", count(tally, TRIAL));
+    write(b", found: ", count(tally, DIFFERENT));
+    io::write_all(STDOUT_FILENO, b"\n");
+}

@@ -35,7 +35,8 @@ use Rattle.automaton.specs.Answer.{answer}
 use Rattle.automaton.specs.Global.{Global}
 use Rattle.automaton.specs.Network.{Net}
 use Rattle.guarantees.specs.Among.{Among, planNumbers, startNumbers, methodNumbers, actionNumbers, tableNumbers}
-use Rattle.guarantees.specs.Reading.{netOf, read, kindOf}
+use Rattle.guarantees.specs.Kinds.{kindOf}
+use Rattle.guarantees.specs.Reading.{netOf, read}
 use Rattle.guarantees.specs.Outcome as outcome
 use Rattle.guarantees.proofs.Outcomes.{method-outcome, act-outcome, list-outcome}
 use Rattle.guarantees.proofs.Exactly.{answer-elim}

@@ -71,7 +71,7 @@ plan-exact =
     let w = plan-witnesses in
     ((planT 1, w .accepted), ((4 ∷ [], w .unknown), ((1 ∷ 0 ∷ [], w .cut-short), (([], w .out-of-order), ((1 ∷ 0 ∷ 1 ∷ roots 65 0, w .too-many), ((1 ∷ 0 ∷ 0 ∷ [], w .out-of-range), ((pair 1 1 [], w .untied), ((pair 1 0 (3 ∷ 0 ∷ 1 ∷ 0 ∷ []), w .lost), ((pair 0 0 (3 ∷ 0 ∷ 1 ∷ 1 ∷ []), w .inside), ((pair 0 1 (3 ∷ 0 ∷ 1 ∷ 0 ∷ []), w .not-one), ((pair 0 1 [], w .unjoined), tt)))))))))))
 
-abbrev T : Network
+abbrev pub T : Network
 T = planOf (planT 1) .network
 
 pub start-exact : Each startNumbers (λ k. (net : Network) × (startOf net .answer ≡ k))
@@ -142,7 +142,7 @@ full-in-range =
     let (v, r, n, l) = T-valid in
     both-yes (validNetwork T) (validState T full) v (passes-valid T full (full-passes T r n l))
 
-by-method : (k : Kind) (p q n : ℕ) → doneIn (wiresOf T) full k p q .answer ≡ n → doneOf T full k p q .answer ≡ n
+pub by-method : (k : Kind) (p q n : ℕ) → doneIn (wiresOf T) full k p q .answer ≡ n → doneOf T full k p q .answer ≡ n
 unfolding doneOf
 by-method k p q n e = ap (λ (d : Done). d .answer) (ifB-yes (inRange T full) _ _ full-in-range) ∙ e
 

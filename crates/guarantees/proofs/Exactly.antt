@@ -22,9 +22,11 @@ use Rattle.automaton.specs.Network.{Net}
 use Rattle.automaton.specs.Global.{Global}
 use Rattle.automaton.specs.Answer.{must, known, legal, inTime, enabled, room, answer}
 use Rattle.automaton.specs.Run.{after, step}
-use Rattle.guarantees.specs.Reading.{netOf, kindOf, read}
+use Rattle.guarantees.specs.Kinds.{kindOf}
+use Rattle.guarantees.specs.Reading.{netOf, read}
 use Rattle.guarantees.specs.Outcome as Outcome
-use Rattle.guarantees.specs.Outcome.{Names, UnknownAt, CutAt, ActOutcome}
+use Rattle.guarantees.specs.Records.{Names, UnknownAt, CutAt}
+use Rattle.guarantees.specs.Outcome.{ActOutcome}
 use Rattle.guarantees.proofs.Outcomes.{in-range, within-of, in-of, not-within, out-of, judged-in, act-outcome}
 use Rattle.guarantees.proofs.Only.{act-is, refused-same}
 

@@ -1,6 +1,7 @@
 pub mod After
 pub mod Answers
 pub mod Bridge
+pub mod Bytes
 pub mod Choices
 pub mod Counting
 pub mod Demand
@@ -10,6 +11,7 @@ pub mod Directions
 pub mod Effects
 pub mod Exact
 pub mod Exactly
+pub mod Fits
 pub mod Links
 pub mod Means
 pub mod Members
@@ -17,6 +19,7 @@ pub mod Messages
 pub mod Needs
 pub mod Only
 pub mod Outcomes
+pub mod Pinned
 pub mod Plans
 pub mod Promise
 pub mod Promised

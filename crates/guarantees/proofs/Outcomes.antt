@@ -21,14 +21,17 @@ use Rattle.synchronizer.specs.After.{afterOf}
 use Rattle.synchronizer.specs.Valid.{validState, Sized}
 use Rattle.synchronizer.specs.Entry.{done, acted, ran, inRange, doneIn, doneOf, actedAs, recordIn, actIn, actOf, listFrom, listOf}
 use Rattle.network.proofs.Valid.{valid-clauses, clauses-valid}
-use Rattle.synchronizer.proofs.States.{valid-state-clauses, clauses-valid-state}
 use Rattle.synchronizer.proofs.Keeps.{taken-keeps}
 use Rattle.automaton.specs.Actions.{Act, bodyOf}
 use Rattle.automaton.specs.Answer.{answer}
 use Rattle.automaton.specs.Run.{after, step, run}
-use Rattle.guarantees.specs.Reading.{netOf, kindOf, read}
+use Rattle.guarantees.specs.Kinds.{kindOf}
+use Rattle.guarantees.specs.Reading.{netOf, read}
 use Rattle.guarantees.specs.Outcome as Outcome
-use Rattle.guarantees.specs.Outcome.{Within, Judged, MethodOutcome, Names, UnknownAt, CutAt, ActOutcome, Taken, Stopped, Listed, ListOutcome}
+use Rattle.guarantees.specs.Records.{Names, UnknownAt, CutAt}
+use Rattle.guarantees.specs.Outcome.{Within, Judged, MethodOutcome, ActOutcome, Taken, Stopped, Listed, ListOutcome}
+use Rattle.guarantees.proofs.Bytes.{names-inside}
+use Rattle.guarantees.proofs.Fits.{valid-fits, fits-valid}
 use Rattle.guarantees.proofs.Records as Records
 use Rattle.guarantees.proofs.Records.{Found, found}
 use Rattle.guarantees.proofs.After.{answer-is, after-is}
@@ -43,13 +46,13 @@ module _ (net : Network) (s : State) where
   pub within-of : inRange net s ≡ true → Within net s
   within-of e =
       let (v, valid) = in-range net s e in
-      record { network = valid-clauses net v; state = valid-state-clauses net v s valid }
+      record { network = valid-clauses net v; state = valid-fits net v s valid }
 
   pub in-of : Within net s → inRange net s ≡ true
   unfolding inRange
   in-of w =
       let v = clauses-valid net (w .network) in
-      both-yes (validNetwork net) (validState net s) v (clauses-valid-state net v s (w .state))
+      both-yes (validNetwork net) (validState net s) v (fits-valid net v s (w .state))
 
   pub not-within : inRange net s ≡ false → Within net s → ⊥
   not-within e w = true-not-false (inRange net s) (in-of w) e
@@ -82,13 +85,13 @@ module _ (net : Network) (v : validNetwork net ≡ true) (s : State) (valid : va
       record {
         number = sym zero;
         follows = after-is net v s valid z a zero ∙ sym (ifEq-yes (answer (netOf net) (read net s) a) 0 _ _ zero);
-        valid = valid-state-clauses net v _ (kept .0);
+        valid = valid-fits net v _ (kept .0);
         sized = kept .1;
       })
       (λ o. record {
         number = answer-is net v s valid a;
         follows = sym (ifEq-no (answer (netOf net) (read net s) a) 0 _ _ (λ e. o (answer-is net v s valid a ∙ e)));
-        valid = valid-state-clauses net v s valid;
+        valid = valid-fits net v s valid;
         sized = z;
       })
 
@@ -159,7 +162,7 @@ module _ (net : Network) (v : validNetwork net ≡ true) (bytes : List ℕ) wher
         eq-elim (From net s bytes at before) (r .answer) 0 rest _ (λ o. absurd (omega arith)) (λ _. stops s valid z at before (r .answer) (Outcome.cut inside c n))
     on (judged a width names j place) later =
         eq-elim (From net s bytes at before) (r .answer) 0 rest _
-        (λ e. goes s (r .state) a at before width rest names (sym (j .number) ∙ e) (subst (λ n. Judged net s a n (r .state)) e j) (later width (place ∙ ifEq-yes (r .answer) 0 width 0 e) (omega (arith, names .whole)) (names .within) (clauses-valid-state net v (r .state) (j .valid)) (j .sized)))
+        (λ e. goes s (r .state) a at before width rest names (sym (j .number) ∙ e) (subst (λ n. Judged net s a n (r .state)) e j) (later width (place ∙ ifEq-yes (r .answer) 0 width 0 e) (omega (arith, names-inside names .0)) (names-inside names .1) (fits-valid net v (r .state) (j .valid)) (j .sized)))
         (λ o. stops s valid z at before (r .answer) (Outcome.refused a width names (j .number) (omega arith)))
 
   from : (turns : ℕ) (s : State) → validState net s ≡ true → Sized s → (at before : ℕ) → at ≤ length bytes → length bytes < turns + at → From net s bytes at before (listFrom turns (wiresOf net) s bytes at before)
@@ -212,7 +215,7 @@ module _ (net : Network) (s : State) (z : Sized s) where
             counted = omega (arith, f .counted);
             follows = f .follows;
             stopped = f .stopped;
-            valid = valid-state-clauses net v (r .state) (f .valid);
+            valid = valid-fits net v (r .state) (f .valid);
             sized = f .sized;
           }
 

@@ -16,7 +16,7 @@ use Rattle.synchronizer.specs.Entry.{doneOf}
 use Rattle.synchronizer.specs.Valid.{Sized}
 use Rattle.automaton.specs.Actions as actions
 use Rattle.automaton.specs.Actions.{Act, bodyOf}
-use Rattle.guarantees.specs.Reading.{kindOf}
+use Rattle.guarantees.specs.Kinds.{kindOf}
 use Rattle.guarantees.specs.Outcome.{MethodOutcome, ActOutcome, ListOutcome}
 use Rattle.guarantees.specs.Promise.{PlanPromise, StartPromise, TablePromise, TrialPromise}
 use Rattle.guarantees.proofs.Outcomes.{method-outcome, act-outcome, list-outcome}

@@ -1,20 +1,27 @@
 -- What `specs/Promise.antt` promises, of the definitions that the contracts cite; and that the promise leaves no second answer.
 -- Assumes nothing.
-use Prim.Native.Nat.{ℕ, zero, suc, _+_, _<_, _≤_}
+use Prim.Native.Nat.{ℕ, zero, suc, _+_, _<_, _≤_, min}
 use native.Mathlib.Omega.{arith}
 use native.Mathlib.Decide.{decLt}
 use mathlib.Core.Path.{_≡_, refl, sym, _∙_, ap, ap₂, subst}
 use mathlib.Core.Bool.{Bool, true, false}
 use mathlib.Core.Logic.{_⊎_, inl, inr, ⊎-elim}
 use mathlib.Core.List.{List, [], _∷_, _++_}
-use lib.ListN.{length, getD, drop, replicate}
+use lib.ListN.{length, getD, drop, length-append}
+use lib.Dec.{eqb}
 use Rattle.laws.specs.Lists.{Bytes}
 use Rattle.laws.specs.Choice.{ifB, ifLt, ifEq}
+use Rattle.laws.specs.Below.{sumBelow, countBelow, pickBelow}
 use Rattle.laws.proofs.Choice.{b-elim, lt-elim, ifB-yes, ifB-no, ifLt-yes, ifLt-no, ifEq-yes, ifEq-no, true-not-false}
 use Rattle.network.specs.declared.Network.{Network}
 use Rattle.network.specs.Valid.{validNetwork, Clauses}
-use Rattle.network.proofs.Valid.{valid-clauses, clauses-valid}
+use Rattle.network.specs.Zeros.{zeroNetwork}
+use Rattle.network.proofs.Valid.{valid-clauses, clauses-valid, valid-limits}
 use Rattle.records.specs.declared.Planned.{Planned}
+use Rattle.records.specs.Plan.{padded, networkOf}
+use Rattle.records.specs.Keeps.{noPlan}
+use Rattle.records.specs.Reader.{answered}
+use Rattle.clusters.specs.Clusters.{clusterCount}
 use Rattle.plan.specs.Accepted.{Accepted, Refused}
 use Rattle.plan.specs.Checks.{planOf}
 use Rattle.plan.proofs.Answers as plan
@@ -31,6 +38,7 @@ use Rattle.synchronizer.specs.Entry.{listOf}
 use Rattle.synchronizer.specs.Valid.{Sized}
 use Rattle.synchronizer.proofs.Keeps.{start-sized, start-valid}
 use Rattle.automaton.specs.Actions.{Act, output, input}
+use Rattle.automaton.specs.Network.{isRoot}
 use Rattle.automaton.specs.Clusters.{Near}
 use Rattle.automaton.specs.Global as Global
 use Rattle.automaton.specs.Run.{run}
@@ -39,11 +47,11 @@ use Rattle.automaton.specs.Lockstep.{lockstep}
 use Rattle.automaton.proofs.Demand as Automaton
 use Rattle.report.specs.Lines.{planLine, nodeLine, nodeLines, takenLine, endLine}
 use Rattle.report.specs.Report.{runText, listText, plannedText, textOf, writtenIn, filledBy}
-use Rattle.guarantees.specs.Reading.{netOf, read}
+use Rattle.guarantees.specs.Reading.{netOf, countOf, read}
 use Rattle.guarantees.specs.Outcome.{MethodOutcome, ActOutcome, ListOutcome}
 use Rattle.guarantees.specs.Steps.{started, finished}
 use Rattle.guarantees.specs.Promise as Promise
-use Rattle.guarantees.specs.Promise.{PlanPromise, StartPromise, TablePromise, TextPromise, InBuffer, TrialPromise, Reachable, Demand3, lockstepLines}
+use Rattle.guarantees.specs.Promise.{PlanPromise, StartPromise, TablePromise, planShown, nodesShown, TextPromise, InBuffer, TrialPromise, Reachable, Demand3}
 use Rattle.guarantees.proofs.Demand.{starts-64}
 use Rattle.guarantees.proofs.Only.{list-is}
 use Rattle.guarantees.proofs.Outcomes.{list-outcome}
@@ -57,16 +65,21 @@ some : (k : ℕ) → (k ≡ 0 → ⊥) → 0 < k
 some zero d = absurd (d refl)
 some (suc k) d = omega arith
 
+-- "a network of zeros" is that of no record
+zeros-are : zeroNetwork ≡ networkOf noPlan
+unfolding zeroNetwork networkOf padded
+zeros-are = refl
+
 pub plan-promise : (s : List ℕ) → Bytes s → PlanPromise s (planOf s)
 plan-promise s small = by (plan.outcome s small)
   where
     by : plan.Outcome s → PlanPromise s (planOf s)
     by (plan.Outcome.taken n net e A) = Promise.PlanPromise.taken n net A e
-    by (plan.Outcome.stopped k w d e F) = Promise.PlanPromise.refused k w (some k d) F e
+    by (plan.Outcome.stopped k w d e F) = Promise.PlanPromise.refused k w (some k d) F (e ∙ ap (answered k w) zeros-are)
 
 pub plan-is : (s : List ℕ) (r : Planned) → PlanPromise s r → r ≡ planOf s
 plan-is s r (Promise.PlanPromise.taken n net A e) = e ∙ sym (accepted-plan s n net A)
-plan-is s r (Promise.PlanPromise.refused k w _ F e) = e ∙ sym (refused-plan s k w F)
+plan-is s r (Promise.PlanPromise.refused k w _ F e) = e ∙ ap (answered k w) (sym zeros-are) ∙ sym (refused-plan s k w F)
 
 -- ---- the start state
 
@@ -82,7 +95,7 @@ module _ (net : Network) where
       by false e = e
 
   pub start-promise : StartPromise net (startOf net)
-  unfolding startOf
+  unfolding startOf freshWith
   start-promise = by (validNetwork net) refl
     where
       by : (t : Bool) → validNetwork net ≡ t → StartPromise net (startOf net)
@@ -90,7 +103,7 @@ module _ (net : Network) where
       by false e = Promise.StartPromise.outOfRange (not-valid e) (ifB-no (validNetwork net) _ _ e)
 
   pub start-one : (r : Done) → StartPromise net r → r ≡ startOf net
-  unfolding startOf
+  unfolding startOf freshWith
   start-one r (Promise.StartPromise.begun c e) = e ∙ sym (ifB-yes (validNetwork net) _ _ (clauses-valid net c))
   start-one r (Promise.StartPromise.outOfRange c e) = e ∙ sym (ifB-no (validNetwork net) _ _ (invalid c))
 
@@ -144,13 +157,43 @@ module _ (net : Network) (long : length (net .starts) ≡ 64) (k : ℕ) (out : L
 
 -- ---- the text
 
+-- how many pass a test is how long the list of them is
+count-picks : (t : ℕ → Bool) (n : ℕ) → countBelow t n ≡ length (pickBelow t n)
+unfolding countBelow sumBelow pickBelow ifB
+count-picks t zero = refl
+count-picks t (suc n) = by (count-picks t n) (t n)
+  where
+    by : sumBelow (λ k. ifB (t k) 1 0) n ≡ length (pickBelow t n) → (b : Bool) → sumBelow (λ k. ifB (t k) 1 0) n + ifB b 1 0 ≡ length (pickBelow t n ++ ifB b (n ∷ []) [])
+    by so-far true = omega (arith, length-append (pickBelow t n) (n ∷ []))
+    by so-far false = omega (arith, length-append (pickBelow t n) [])
+
+module _ (net : Network) (v : validNetwork net ≡ true) where
+  clusters-are : clusterCount net ≡ length (pickBelow (isRoot (netOf net)) (net .nodes))
+  unfolding clusterCount isRoot netOf
+  clusters-are =
+      let all : min (net .nodes) 64 ≡ net .nodes = omega (arith, valid-limits net v .at-most-64-nodes) in
+      ap (countBelow (λ p. eqb (getD (net .parents) p 0) p)) all ∙ count-picks (λ p. eqb (getD (net .parents) p 0) p) (net .nodes)
+
+  lines-are : (s : State) (n : ℕ) → n ≤ net .nodes → nodeLines (s .counts) (s .values) n ≡ nodesShown net s (λ p. getD (s .values) p 0) n
+  unfolding nodeLines started finished read
+  lines-are s zero h = refl
+  lines-are s (suc n) h =
+      ap₂ (λ x y. x ++ y) (lines-are s n (omega arith))
+      (ap₂ (λ (x y : ℕ). nodeLine n x y (getD (s .values) n 0)) (started-read net v s n (omega arith)) (finished-read net v s n (omega arith)))
+
+  -- the contract's text of a run, in the promise's words
+  pub run-shown : (n : ℕ) (r : Ran) → runText net n r ≡ planShown net ++ nodesShown net (r .state) (λ p. getD (r .state .values) p 0) (net .nodes) ++ takenLine (r .taken) ++ endLine (r .answer) (n + r .place)
+  unfolding runText
+  run-shown n r =
+      λ i. planLine (net .nodes) (net .links) (clusters-are i) (net .rounds) ++ lines-are (r .state) (net .nodes) (omega arith) i ++ takenLine (r .taken) ++ endLine (r .answer) (n + r .place)
+
 module _ (s : List ℕ) where
-  text-too-long : 65536 < length s → textOf s ≡ endLine 19 65536
+  pub text-too-long : 65536 < length s → textOf s ≡ endLine 19 65536
   unfolding textOf
   text-too-long h = ifLt-yes 65536 (length s) (endLine 19 65536) (plannedText s (planOf s)) h
 
   module _ (room : length s ≤ 65536) where
-    text-refused : (k w : ℕ) → 0 < k → Refused s k w → textOf s ≡ endLine k w
+    pub text-refused : (k w : ℕ) → 0 < k → Refused s k w → textOf s ≡ endLine k w
     unfolding textOf plannedText
     text-refused k w h F =
         ifLt-no 65536 (length s) (endLine 19 65536) (plannedText s (planOf s)) room ∙ ap (plannedText s) (refused-plan s k w F) ∙ ifEq-no k 0 _ _ (λ e. omega arith)
@@ -162,22 +205,20 @@ module _ (s : List ℕ) where
 
   -- the text that is promised is the one of the contract
   pub text-is : (text : List ℕ) → TextPromise s text → text ≡ textOf s
-  unfolding runText
   text-is text (Promise.TextPromise.tooLong h e) = e ∙ sym (text-too-long h)
   text-is text (Promise.TextPromise.refused room k w h F e) = e ∙ sym (text-refused room k w h F)
   text-is text (Promise.TextPromise.ran room n net b r A S L e) =
       let begun : b ≡ startOf net = start-one net b S in
       let from : ListOutcome net (startOf net .state) (drop n s) r = subst (λ (d : Done). ListOutcome net (d .state) (drop n s) r) begun L in
       let same : r ≡ listOf net (startOf net .state) (drop n s) = list-is net (startOf net .state) (start-sized net (starts-64 net A)) (drop n s) r from in
-      e ∙ ap (runText net n) same ∙ sym (text-accepted room n net A)
+      e ∙ sym (run-shown net (accepted-is-valid A) n r) ∙ ap (runText net n) same ∙ sym (text-accepted room n net A)
 
   pub text-promise : Bytes s → TextPromise s (textOf s)
-  unfolding runText
   text-promise small = ⊎-elim (λ h. Promise.TextPromise.tooLong h (text-too-long h)) (λ h. by h (plan.outcome s small)) (either 65536 (length s))
     where
       by : length s ≤ 65536 → plan.Outcome s → TextPromise s (textOf s)
       by room (plan.Outcome.taken n net e A) =
-          Promise.TextPromise.ran room n net (startOf net) (listOf net (startOf net .state) (drop n s)) A (start-promise net) (list-outcome net (startOf net .state) (start-sized net (starts-64 net A)) (drop n s)) (text-accepted room n net A)
+          Promise.TextPromise.ran room n net (startOf net) (listOf net (startOf net .state) (drop n s)) A (start-promise net) (list-outcome net (startOf net .state) (start-sized net (starts-64 net A)) (drop n s)) (text-accepted room n net A ∙ run-shown net (accepted-is-valid A) n (listOf net (startOf net .state) (drop n s)))
       by room (plan.Outcome.stopped k w d e F) = Promise.TextPromise.refused room k w (some k d) F (text-refused room k w (some k d) F)
 
 -- ---- the lent buffer
@@ -216,31 +257,30 @@ module _ {bytes : List ℕ} {n : ℕ} (net : Network) (A : Accepted bytes n net)
     there : Reached net s
     there = reached s h
 
-    counted : (p : ℕ) → p < net .nodes → run (netOf net) (Global.begin (netOf net)) (there .actions) .count (output p) ≡ started s p
-    counted p b = sym (started-read net v s p b ∙ ap (λ g. g .count (output p)) (there .is))
+    counted : (a : Act) → run (netOf net) (Global.begin (netOf net)) (there .actions) .count a ≡ countOf net s a
+    unfolding read
+    counted a = sym (ap (λ g. g .count a) (there .is))
+
+    holds : (p k : ℕ) → countOf net s (input p) ≡ k → getD (s .values) p 0 ≡ lockstep (netOf net) k p
+    unfolding read
+    holds p k e = ap (λ g. g .value p) (there .is) ∙ Automaton.setpoint (netOf net) (plan-accepted net A) (there .actions) p k (counted (input p) ∙ e)
+
+    shown-upto : (n : ℕ) → nodesShown net s (λ p. getD (s .values) p 0) n ≡ nodesShown net s (λ p. lockstep (netOf net) (countOf net s (input p)) p) n
+    shown-upto zero = refl
+    shown-upto (suc n) =
+        ap₂ (λ x y. x ++ y) (shown-upto n) (ap (nodeLine n (countOf net s (output n)) (countOf net s (input n))) (holds n (countOf net s (input n)) refl))
 
     pub demand-3 : Demand3 net s
-    unfolding read netOf
+    unfolding netOf
     demand-3 =
         record {
-          setpoint = λ p k b e. ap (λ g. g .value p) (there .is) ∙ Automaton.setpoint (netOf net) (plan-accepted net A) (there .actions) p k (sym (ap (λ g. g .count (input p)) (there .is)) ∙ sym (finished-read net v s p b) ∙ e);
-          near = λ p q hp hq near. omega (arith, counted p hp, counted q hq, Automaton.rounds-near (netOf net) (plan-accepted net A) (there .actions) p q hp hq near .0);
+          setpoint = λ p k b e. holds p k e;
+          near = λ p q hp hq near. omega (arith, counted (output p), counted (output q), Automaton.rounds-near (netOf net) (plan-accepted net A) (there .actions) p q hp hq near .0);
           never-18 = λ a e. no-action net (plan-accepted net A) s there a 18 (sym e) refl;
+          shown = shown-upto (net .nodes);
         }
 
-    -- every node line that shows k inputs shows the lockstep value of k rounds
-    pub lines-lockstep : nodeLines (s .counts) (s .values) (net .nodes) ≡ lockstepLines net s (net .nodes)
-    unfolding nodeLines started finished
-    lines-lockstep = upto (net .nodes) (omega arith)
-      where
-        upto : (m : ℕ) → m ≤ net .nodes → nodeLines (s .counts) (s .values) m ≡ lockstepLines net s m
-        upto zero b = refl
-        upto (suc m) b = ap₂ (λ x y. x ++ y) (upto m (omega arith)) (ap (nodeLine m (started s m) (finished s m)) (demand-3 .setpoint m (finished s m) (omega arith) refl))
-
 -- the state whose node lines a trial prints is reached by the plan's list, so demand 3 holds of it, and of the lines
-module _ {bytes : List ℕ} {n : ℕ} (net : Network) (A : Accepted bytes n net) (s : Done) (r : Ran) (S : StartPromise net s) (L : ListOutcome net (s .state) (drop n bytes) r) where
-  pub printed-demand-3 : Demand3 net (r .state)
-  printed-demand-3 = demand-3 net A (r .state) (Promise.Reachable.list (s .state) (drop n bytes) r (Promise.Reachable.begin s S) L)
-
-  pub printed-lockstep : nodeLines (r .state .counts) (r .state .values) (net .nodes) ≡ lockstepLines net (r .state) (net .nodes)
-  printed-lockstep = lines-lockstep net A (r .state) (Promise.Reachable.list (s .state) (drop n bytes) r (Promise.Reachable.begin s S) L)
+pub printed-demand-3 : {bytes : List ℕ} {n : ℕ} (net : Network) → Accepted bytes n net → (s : Done) (r : Ran) → StartPromise net s → ListOutcome net (s .state) (drop n bytes) r → Demand3 net (r .state)
+printed-demand-3 {bytes} {n} net A s r S L =
+    demand-3 net A (r .state) (Promise.Reachable.list (s .state) (drop n bytes) r (Promise.Reachable.begin s S) L)

@@ -12,7 +12,6 @@ use Rattle.laws.specs.Choice.{ifB, ifEq}
 use Rattle.network.specs.declared.Network.{Network}
 use Rattle.network.specs.Valid.{validNetwork, Clauses}
 use Rattle.network.proofs.Valid.{clauses-valid}
-use Rattle.synchronizer.proofs.States.{clauses-valid-state}
 use Rattle.actions.specs.declared.Kind.{Kind}
 use Rattle.actions.specs.declared.Place.{Place}
 use Rattle.actions.specs.Table.{placeOf}
@@ -33,10 +32,12 @@ use Rattle.automaton.specs.Answer.{answer}
 use Rattle.automaton.specs.Run.{step, run}
 use Rattle.automaton.specs.Accepted.{Accepted}
 use Rattle.automaton.proofs.Demand.{no-full-queue}
-use Rattle.guarantees.specs.Reading.{netOf, kindOf, namesLink, seated, seatOf, read}
+use Rattle.guarantees.specs.Kinds.{kindOf}
+use Rattle.guarantees.specs.Reading.{netOf, namesLink, seated, seatOf, read}
 use Rattle.guarantees.specs.Outcome as Outcome
 use Rattle.guarantees.specs.Outcome.{Judged, MethodOutcome, ActOutcome, Stopped, ListOutcome}
 use Rattle.guarantees.specs.Steps.{Step, method, action, list, secondOf, stateAfter, answerTo, stateAfterAll, started, finished}
+use Rattle.guarantees.proofs.Fits.{fits-valid}
 use Rattle.guarantees.proofs.Tables.{actionOf, placeAs, named}
 use Rattle.guarantees.proofs.Needs.{count-read}
 use Rattle.guarantees.proofs.Outcomes.{method-outcome, act-outcome, list-outcome}
@@ -84,7 +85,7 @@ module _ (net : Network) where
 
   one-more : (s s′ : State) (a : Act) (n : ℕ) → Clauses net → Reached s → Judged net s a n s′ → Reached s′
   unfolding run
-  one-more s s′ a n c h j = more s s′ h (a ∷ []) (j .follows) (clauses-valid-state net (clauses-valid net c) s′ (j .valid)) (j .sized)
+  one-more s s′ a n c h j = more s s′ h (a ∷ []) (j .follows) (fits-valid net (clauses-valid net c) s′ (j .valid)) (j .sized)
 
   -- ---- by one step, and by all
 
@@ -100,7 +101,7 @@ module _ (net : Network) where
 
   pub by-list : (s : State) (bytes : List ℕ) (r : Ran) → Reached s → ListOutcome net s bytes r → Reached (r .state)
   by-list s bytes r h (Outcome.ListOutcome.outOfRange _ is) = subst (λ (d : Ran). Reached (d .state)) (sym is) h
-  by-list s bytes r h (Outcome.ListOutcome.listed w l) = more s (r .state) h (l .actions) (l .follows) (clauses-valid-state net (clauses-valid net (w .network)) (r .state) (l .valid)) (l .sized)
+  by-list s bytes r h (Outcome.ListOutcome.listed w l) = more s (r .state) h (l .actions) (l .follows) (fits-valid net (clauses-valid net (w .network)) (r .state) (l .valid)) (l .sized)
 
   pub step-reaches : (s : State) → Reached s → (x : Step) → Reached (stateAfter net s x)
   unfolding stateAfter

@@ -28,7 +28,8 @@ use Rattle.automaton.specs.Global.{Global, parity}
 use Rattle.automaton.specs.Answer.{packetAtFront}
 use Rattle.automaton.specs.Run.{carried, after}
 use Rattle.automaton.proofs.Effects.{same-eq, same-self, slot-written, slot-spared, slot-untouched}
-use Rattle.guarantees.specs.Reading.{joins, directionOf, netOf, kindOf, seated, countOf, read}
+use Rattle.guarantees.specs.Kinds.{kindOf}
+use Rattle.guarantees.specs.Reading.{joins, directionOf, netOf, seated, countOf, read}
 use Rattle.guarantees.proofs.Choices.{b-same, lt-same}
 use Rattle.guarantees.proofs.Links.{nodes-below}
 use Rattle.guarantees.proofs.Directions.{direction-below, direction-in-row, one-direction, lane-is}

@@ -1,7 +1,9 @@
 pub mod Among
 pub mod Bridge
+pub mod Kinds
 pub mod Outcome
 pub mod Promise
 pub mod Reading
+pub mod Records
 pub mod Steps
 pub mod Trials

@@ -1,17 +1,18 @@
 -- What Teravulk promises, on one page: for every input of every public entry point its one answer, in document 01's words and order.
--- `proofs/Promise.antt` proves each promise of the entry point's contract, as the checker generates it.
--- Assumes nothing.
+-- `proofs/Promise.antt` proves each promise of the entry point's contract, as the checker generates it. Assumes nothing.
 use Prim.Native.Nat.{ℕ, zero, suc, _+_, _<_, _≤_}
 use mathlib.Core.Path.{_≡_}
 use mathlib.Core.List.{List, [], _++_}
 use lib.ListN.{length, getD, drop, replicate}
+use Rattle.laws.specs.Below.{pickBelow}
 use Rattle.network.specs.declared.Network.{Network}
 use Rattle.network.specs.Valid.{Clauses}
-use Rattle.network.specs.Zeros.{zeroNetwork}
 use Rattle.records.specs.declared.Planned.{Planned}
+use Rattle.records.specs.Plan.{networkOf}
+use Rattle.records.specs.Keeps.{noPlan}
 use Rattle.plan.specs.Accepted.{Accepted, Refused}
-use Rattle.clusters.specs.Clusters.{clusterCount}
-use Rattle.automaton.specs.Actions.{Act}
+use Rattle.automaton.specs.Actions.{Act, output, input}
+use Rattle.automaton.specs.Network.{isRoot}
 use Rattle.automaton.specs.Clusters.{Near}
 use Rattle.automaton.specs.Answer.{answer}
 use Rattle.automaton.specs.Lockstep.{lockstep}
@@ -19,27 +20,30 @@ use Rattle.synchronizer.specs.declared.State.{State}
 use Rattle.synchronizer.specs.declared.Done.{Done}
 use Rattle.synchronizer.specs.declared.Acted.{Acted}
 use Rattle.synchronizer.specs.declared.Ran.{Ran}
-use Rattle.synchronizer.specs.Start.{freshWith}
-use Rattle.report.specs.Lines.{planLine, nodeLine, nodeLines, takenLine, endLine}
-use Rattle.guarantees.specs.Reading.{netOf, read}
+use Rattle.report.specs.Lines.{planLine, nodeLine, takenLine, endLine}
+use Rattle.guarantees.specs.Reading.{netOf, countOf, read}
 use Rattle.guarantees.specs.Outcome.{MethodOutcome, ActOutcome, ListOutcome}
-use Rattle.guarantees.specs.Steps.{started, finished}
 
 -- ---- `read_plan`: "Numbers that come back", 0 to 10
 
 pub data PlanPromise (bytes : List ℕ) (r : Planned) : Type 0 where
   -- "0, accepted, bytes read": n bytes hold a plan that keeps every rule, and the network is that plan's
   taken : (n : ℕ) (net : Network) → Accepted bytes n net → r ≡ record { number = 0; place = n; network = net } → PlanPromise bytes r
-  -- the first rule broken, with its place; "A refused plan hands back a network of zeros"
-  refused : (k w : ℕ) → 0 < k → Refused bytes k w → r ≡ record { number = k; place = w; network = zeroNetwork } → PlanPromise bytes r
+  -- the first rule broken, with its place; "A refused plan hands back a network of zeros": that of no record
+  refused : (k w : ℕ) → 0 < k → Refused bytes k w → r ≡ record { number = k; place = w; network = networkOf noPlan } → PlanPromise bytes r
 
 -- ---- `State::start`
 
+-- no action taken, nothing waiting and nothing heard
+abbrev pub fresh : List ℕ → State
+fresh values =
+    record { counts = replicate 5120 0; lens = replicate 256 0; sorts = replicate 512 0; loads = replicate 512 0; slots = replicate 512 0; values = values }
+
 pub data StartPromise (net : Network) (r : Done) : Type 0 where
   -- "In the start state all counts and slots are 0, queues are empty and values are the plan's"
-  begun : Clauses net → r ≡ record { answer = 0; state = freshWith (net .starts) } → StartPromise net r
+  begun : Clauses net → r ≡ record { answer = 0; state = fresh (net .starts) } → StartPromise net r
   -- "a start state refused by 17 is all zeros"
-  outOfRange : (Clauses net → ⊥) → r ≡ record { answer = 17; state = freshWith (replicate 64 0) } → StartPromise net r
+  outOfRange : (Clauses net → ⊥) → r ≡ record { answer = 17; state = fresh (replicate 64 0) } → StartPromise net r
 
 -- ---- `table` of k rounds into a lent buffer: "Table order: 17, 20, 21"
 
@@ -62,6 +66,15 @@ pub data TablePromise (net : Network) (k : ℕ) (before : List ℕ) (n : ℕ) (a
 
 -- ---- the printed text: "The bench program"
 
+-- "Fields: nodes, links, clusters, rounds"; clusters are the roots
+abbrev pub planShown : Network → List ℕ
+planShown net = planLine (net .nodes) (net .links) (length (pickBelow (isRoot (netOf net)) (net .nodes))) (net .rounds)
+
+-- "then per node its number, outputs, inputs, value", for the nodes below n and values that are given
+abbrev pub nodesShown : Network → State → (ℕ → ℕ) → ℕ → List ℕ
+nodesShown net s value zero = []
+nodesShown net s value (suc p) = nodesShown net s value p ++ nodeLine p (countOf net s (output p)) (countOf net s (input p)) (value p)
+
 pub data TextPromise (bytes text : List ℕ) : Type 0 where
   -- "input longer than 65,536 bytes"; "After a plan refusal or 19 only the end line is printed"
   tooLong : 65536 < length bytes → text ≡ endLine 19 65536 → TextPromise bytes text
@@ -70,11 +83,7 @@ pub data TextPromise (bytes text : List ℕ) : Type 0 where
   ran :
       length bytes ≤ 65536 → (n : ℕ) (net : Network) (s : Done) (r : Ran)
       → Accepted bytes n net → StartPromise net s → ListOutcome net (s .state) (drop n bytes) r
-      -- "nodes, links, clusters, rounds; then per node its number, outputs, inputs, value; then actions taken; then answer number and place"
-      → text ≡ planLine (net .nodes) (net .links) (clusterCount net) (net .rounds)
-      ++ nodeLines (r .state .counts) (r .state .values) (net .nodes)
-      ++ takenLine (r .taken)
-      ++ endLine (r .answer) (n + r .place)
+      → text ≡ planShown net ++ nodesShown net (r .state) (λ p. getD (r .state .values) p 0) (net .nodes) ++ takenLine (r .taken) ++ endLine (r .answer) (n + r .place)
       → TextPromise bytes text
 
 -- the lent buffer: the whole text and how long it is, or, where it has no room for the whole, 0 and nothing written
@@ -102,13 +111,10 @@ pub data Reachable (net : Network) : State → Type 0 where
 -- of every reachable state of an accepted plan's network: "Rounds started are outputs, rounds finished are inputs"
 pub record Demand3 (net : Network) (s : State) : Type 0 where
   -- a controller that has finished k rounds holds the setpoint of a lockstep run of k rounds
-  pub setpoint : (p k : ℕ) → p < net .nodes → finished s p ≡ k → getD (s .values) p 0 ≡ lockstep (netOf net) k p
+  pub setpoint : (p k : ℕ) → p < net .nodes → countOf net s (input p) ≡ k → getD (s .values) p 0 ≡ lockstep (netOf net) k p
   -- two controllers in one cluster, or in two clusters joined by a link, have started numbers of rounds that differ by at most one
-  pub near : (p q : ℕ) → p < net .nodes → q < net .nodes → Near (netOf net) p q → started s p ≤ suc (started s q)
+  pub near : (p q : ℕ) → p < net .nodes → q < net .nodes → Near (netOf net) p q → countOf net s (output p) ≤ suc (countOf net s (output q))
   -- no action is refused by 18
   pub never-18 : (a : Act) → answer (netOf net) (read net s) a ≡ 18 → ⊥
-
--- said of what is printed: the line of a node that shows k inputs shows its lockstep value of k rounds
-abbrev pub lockstepLines : Network → State → ℕ → List ℕ
-lockstepLines net s zero = []
-lockstepLines net s (suc p) = lockstepLines net s p ++ nodeLine p (started s p) (finished s p) (lockstep (netOf net) (finished s p) p)
+  -- the first sentence said of what is printed: the line of a node that shows k inputs shows its lockstep value of k rounds
+  pub shown : nodesShown net s (λ p. getD (s .values) p 0) (net .nodes) ≡ nodesShown net s (λ p. lockstep (netOf net) (countOf net s (input p)) p) (net .nodes)

@@ -16,7 +16,7 @@ use Rattle.records.specs.Record.{bodyLength, readAt}
 use Rattle.records.specs.Reader.{refusedWith, acceptedWith, listsOf}
 use Rattle.records.specs.Plan.{Plan, networkOf, Rising, Keeps1to5}
 use Rattle.records.specs.Keeps.{recordBytes, noPlan, with, Keeps, EachKeeps, withAll, recordsBytes, BreaksAt, bytes-end, unknown, short, whole, Accepted1to5, Refused1to5}
-use Rattle.records.proofs.Begun.{recordsOf, plan-written, records-keep, records-add-up}
+use Rattle.records.proofs.Begun.{not-end-goes, recordsOf, plan-written, records-keep, records-add-up}
 use Rattle.records.proofs.Codec.{read-cases, written-is-read}
 use Rattle.records.proofs.Keeping.{kept-gives-0, broken-gives-its-number, broken-is-no-0}
 use Rattle.records.proofs.Networks.{network-of-none, network-with}
@@ -53,7 +53,7 @@ reads-through s p (r ∷ rs) at k o h R =
     let cs = recordsBytes rs in
     let kept = kept-gives-0 p o r (k .1) in
     let room = kept-has-room (networkOf p) r kept in
-    let next = goes-on R (written-is-read s at r (holds-front s at bs cs h)) kept (k .0) room in
+    let next = goes-on R (written-is-read s at r (holds-front s at bs cs h)) kept (not-end-goes r (k .0)) room in
     let (o′, R′) = reads-through s (with p r) rs (at + length bs) (k .2) (still-rising p r o (k .1)) (holds-rest s at bs cs h) (rw (network-with p r room) next) in
     let e : at + length bs + length cs ≡ at + length (bs ++ cs) = omega (arith, length-append bs cs) in
     (o′, subst (λ n. Reading s n (networkOf (withAll (with p r) rs))) e R′)
