@@ -1,6 +1,7 @@
 pub mod After
 pub mod Answers
 pub mod Bridge
+pub mod ByRecords
 pub mod Bytes
 pub mod Choices
 pub mod Counting

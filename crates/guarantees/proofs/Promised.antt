@@ -50,6 +50,7 @@ use Rattle.report.specs.Report.{runText, listText, plannedText, textOf, written
 use Rattle.guarantees.specs.Reading.{netOf, countOf, read}
 use Rattle.guarantees.specs.Outcome.{MethodOutcome, ActOutcome, ListOutcome}
 use Rattle.guarantees.specs.Steps.{started, finished}
+use Rattle.guarantees.specs.Plans as page
 use Rattle.guarantees.specs.Promise as Promise
 use Rattle.guarantees.specs.Promise.{PlanPromise, StartPromise, TablePromise, planShown, nodesShown, TextPromise, InBuffer, TrialPromise, Reachable, Demand3}
 use Rattle.guarantees.proofs.Demand.{starts-64}
@@ -57,6 +58,7 @@ use Rattle.guarantees.proofs.Only.{list-is}
 use Rattle.guarantees.proofs.Outcomes.{list-outcome}
 use Rattle.guarantees.proofs.Plans.{plan-accepted}
 use Rattle.guarantees.proofs.Reached.{Reached, by-method, by-act, by-list, started-read, finished-read, no-action}
+use Rattle.guarantees.proofs.ByRecords.{accepted-from, accepted-to, refused-from, refused-to}
 use Rattle.guarantees.proofs.Start.{start-is, lockstep-is}
 
 -- ---- the plan reader
@@ -74,12 +76,12 @@ pub plan-promise : (s : List ℕ) → Bytes s → PlanPromise s (planOf s)
 plan-promise s small = by (plan.outcome s small)
   where
     by : plan.Outcome s → PlanPromise s (planOf s)
-    by (plan.Outcome.taken n net e A) = Promise.PlanPromise.taken n net A e
-    by (plan.Outcome.stopped k w d e F) = Promise.PlanPromise.refused k w (some k d) F (e ∙ ap (answered k w) zeros-are)
+    by (plan.Outcome.taken n net e A) = Promise.PlanPromise.taken n net (accepted-to small A) e
+    by (plan.Outcome.stopped k w d e F) = Promise.PlanPromise.refused k w (some k d) (refused-to small F) (e ∙ ap (answered k w) zeros-are)
 
 pub plan-is : (s : List ℕ) (r : Planned) → PlanPromise s r → r ≡ planOf s
-plan-is s r (Promise.PlanPromise.taken n net A e) = e ∙ sym (accepted-plan s n net A)
-plan-is s r (Promise.PlanPromise.refused k w _ F e) = e ∙ ap (answered k w) (sym zeros-are) ∙ sym (refused-plan s k w F)
+plan-is s r (Promise.PlanPromise.taken n net A e) = e ∙ sym (accepted-plan s n net (accepted-from A))
+plan-is s r (Promise.PlanPromise.refused k w _ F e) = e ∙ ap (answered k w) (sym zeros-are) ∙ sym (refused-plan s k w (refused-from F))
 
 -- ---- the start state
 
@@ -206,8 +208,9 @@ module _ (s : List ℕ) where
   -- the text that is promised is the one of the contract
   pub text-is : (text : List ℕ) → TextPromise s text → text ≡ textOf s
   text-is text (Promise.TextPromise.tooLong h e) = e ∙ sym (text-too-long h)
-  text-is text (Promise.TextPromise.refused room k w h F e) = e ∙ sym (text-refused room k w h F)
-  text-is text (Promise.TextPromise.ran room n net b r A S L e) =
+  text-is text (Promise.TextPromise.refused room k w h F e) = e ∙ sym (text-refused room k w h (refused-from F))
+  text-is text (Promise.TextPromise.ran room n net b r B S L e) =
+      let A = accepted-from B in
       let begun : b ≡ startOf net = start-one net b S in
       let from : ListOutcome net (startOf net .state) (drop n s) r = subst (λ (d : Done). ListOutcome net (d .state) (drop n s) r) begun L in
       let same : r ≡ listOf net (startOf net .state) (drop n s) = list-is net (startOf net .state) (start-sized net (starts-64 net A)) (drop n s) r from in
@@ -218,8 +221,8 @@ module _ (s : List ℕ) where
     where
       by : length s ≤ 65536 → plan.Outcome s → TextPromise s (textOf s)
       by room (plan.Outcome.taken n net e A) =
-          Promise.TextPromise.ran room n net (startOf net) (listOf net (startOf net .state) (drop n s)) A (start-promise net) (list-outcome net (startOf net .state) (start-sized net (starts-64 net A)) (drop n s)) (text-accepted room n net A ∙ run-shown net (accepted-is-valid A) n (listOf net (startOf net .state) (drop n s)))
-      by room (plan.Outcome.stopped k w d e F) = Promise.TextPromise.refused room k w (some k d) F (text-refused room k w (some k d) F)
+          Promise.TextPromise.ran room n net (startOf net) (listOf net (startOf net .state) (drop n s)) (accepted-to small A) (start-promise net) (list-outcome net (startOf net .state) (start-sized net (starts-64 net A)) (drop n s)) (text-accepted room n net A ∙ run-shown net (accepted-is-valid A) n (listOf net (startOf net .state) (drop n s)))
+      by room (plan.Outcome.stopped k w d e F) = Promise.TextPromise.refused room k w (some k d) (refused-to small F) (text-refused room k w (some k d) F)
 
 -- ---- the lent buffer
 
@@ -240,7 +243,10 @@ trial-promise s before small short n after e f =
 
 -- ---- demand 3
 
-module _ {bytes : List ℕ} {n : ℕ} (net : Network) (A : Accepted bytes n net) where
+module _ {bytes : List ℕ} {n : ℕ} (net : Network) (taken : page.Accepted bytes n net) where
+  A : Accepted bytes n net
+  A = accepted-from taken
+
   v : validNetwork net ≡ true
   v = accepted-is-valid A
 
@@ -281,6 +287,6 @@ module _ {bytes : List ℕ} {n : ℕ} (net : Network) (A : Accepted bytes n net)
         }
 
 -- the state whose node lines a trial prints is reached by the plan's list, so demand 3 holds of it, and of the lines
-pub printed-demand-3 : {bytes : List ℕ} {n : ℕ} (net : Network) → Accepted bytes n net → (s : Done) (r : Ran) → StartPromise net s → ListOutcome net (s .state) (drop n bytes) r → Demand3 net (r .state)
+pub printed-demand-3 : {bytes : List ℕ} {n : ℕ} (net : Network) → page.Accepted bytes n net → (s : Done) (r : Ran) → StartPromise net s → ListOutcome net (s .state) (drop n bytes) r → Demand3 net (r .state)
 printed-demand-3 {bytes} {n} net A s r S L =
     demand-3 net A (r .state) (Promise.Reachable.list (s .state) (drop n bytes) r (Promise.Reachable.begin s S) L)

@@ -2,6 +2,7 @@ pub mod Among
 pub mod Bridge
 pub mod Kinds
 pub mod Outcome
+pub mod Plans
 pub mod Promise
 pub mod Reading
 pub mod Records

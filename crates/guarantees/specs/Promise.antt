@@ -10,7 +10,6 @@ use Rattle.network.specs.Valid.{Clauses}
 use Rattle.records.specs.declared.Planned.{Planned}
 use Rattle.records.specs.Plan.{networkOf}
 use Rattle.records.specs.Keeps.{noPlan}
-use Rattle.plan.specs.Accepted.{Accepted, Refused}
 use Rattle.automaton.specs.Actions.{Act, output, input}
 use Rattle.automaton.specs.Network.{isRoot}
 use Rattle.automaton.specs.Clusters.{Near}
@@ -21,6 +20,7 @@ use Rattle.synchronizer.specs.declared.Done.{Done}
 use Rattle.synchronizer.specs.declared.Acted.{Acted}
 use Rattle.synchronizer.specs.declared.Ran.{Ran}
 use Rattle.report.specs.Lines.{planLine, nodeLine, takenLine, endLine}
+use Rattle.guarantees.specs.Plans.{Accepted, Refused}
 use Rattle.guarantees.specs.Reading.{netOf, countOf, read}
 use Rattle.guarantees.specs.Outcome.{MethodOutcome, ActOutcome, ListOutcome}
 
