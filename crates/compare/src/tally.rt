@@ -57,7 +57,7 @@ fn differ(tally: &mut Tally, what: &[u8], place: usize, bench: usize, second: us
 }
 
 // So many numbers that have to be the same on both sides. Where they are not, the place of the first that differs is below `size`.
-pub fn same_list(
+pub(crate) fn same_list(
     tally: &mut Tally,
     what: &[u8],
     size: usize,
