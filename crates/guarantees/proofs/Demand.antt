@@ -9,10 +9,10 @@ use mathlib.Core.Path.{_≡_, sym, _∙_, ap, subst}
 use mathlib.Core.Bool.{true}
 use mathlib.Core.List.{List, map}
 use lib.ListN.{length, getD, length-map}
+use Rattle.laws.specs.Lists.{Bytes}
 use Rattle.network.specs.declared.Network.{Network}
 use Rattle.network.specs.Sets.{withSets}
 use Rattle.network.specs.Valid.{validNetwork}
-use Rattle.records.specs.Keeps.{Bytes}
 use Rattle.records.specs.Plan.{networkOf}
 use Rattle.records.specs.Reader.{acceptedWith}
 use Rattle.records.proofs.Lists.{length-padded}
@@ -31,7 +31,7 @@ use Rattle.guarantees.proofs.Plans.{plan-accepted}
 use Rattle.guarantees.proofs.Demand3 as start
 
 -- an accepted plan's network has its 64 start values
-starts-64 : {s : List ℕ} {n : ℕ} (net : Network) → Accepted s n net → length (net .starts) ≡ 64
+pub starts-64 : {s : List ℕ} {n : ℕ} (net : Network) → Accepted s n net → length (net .starts) ≡ 64
 unfolding withSets networkOf
 starts-64 net A =
     ap (λ (x : Network). length (x .starts)) (A .network)

@@ -10,7 +10,8 @@ use contract.Lifetimes.{Lfts}
 use denote.Ref.{now}
 use denote.Triple.Clauses.{AtExit}
 use borrow.Fn.Kinds.{Dens, resT, endedOf}
-use Rattle.records.specs.Keeps.{Bytes, BreaksAt, bytes-end, unknown, short, whole, BreaksFirst, order, number, range}
+use Rattle.laws.specs.Lists.{Bytes}
+use Rattle.records.specs.Keeps.{BreaksAt, bytes-end, unknown, short, whole, BreaksFirst, order, number, range}
 use Rattle.records.specs.Plan.{Plan}
 use Rattle.records.specs.declared.Record.{Record}
 use Rattle.layout.specs.declared.Laid.{Laid}
