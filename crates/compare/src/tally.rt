@@ -1,5 +1,6 @@
 // What the trials come to: how often each answer came, how often each clause of 17, how many numbers were compared and how many of them
 // differed. The first difference of a trial is written out with the trial's number.
+use draws::bytes::get;
 use draws::numbers::of_byte;
 use draws::numbers::plus;
 use draws::numbers::word_at;
@@ -89,6 +90,24 @@ pub fn same_words(tally: &mut Tally, what: &[u8], bench: &[u16], second: &[u16])
     same_list(tally, what, bench.len(), i, x, y);
 }
 
+// The first place at which two byte strings differ.
+fn first_byte(a: &[u8], b: &[u8]) -> usize {
+    for i in 0..a.len() {
+        if get(a, i) != get(b, i) {
+            return i;
+        }
+    }
+    a.len()
+}
+
+// Two byte strings of one length that have to be the same.
+pub fn same_bytes(tally: &mut Tally, what: &[u8], bench: &[u8], second: &[u8]) {
+    let i = first_byte(bench, second);
+    let x = of_byte(get(bench, i));
+    let y = of_byte(get(second, i));
+    same_list(tally, what, bench.len(), i, x, y);
+}
+
 pub fn same(tally: &mut Tally, what: &[u8], bench: usize, second: usize) {
     raise(tally, COMPARED, 1);
     if bench != second {
@@ -126,13 +145,35 @@ fn write_counts(tally: &Tally) {
     }
 }
 
+// The last lines of a report.
+fn report_compared(tally: &Tally) {
+    write(b"numbers compared: ", count(tally, COMPARED));
+    write(b"\ndifferences: ", count(tally, DIFFERENT));
+    io::write_all(STDOUT_FILENO, b"\n");
+}
+
 pub fn report(tally: &Tally) {
     write(b"trials: ", count(tally, TRIAL));
     io::write_all(STDOUT_FILENO, b"\n");
     write_counts(tally);
-    write(b"numbers compared: ", count(tally, COMPARED));
-    write(b"\ndifferences: ", count(tally, DIFFERENT));
+    report_compared(tally);
+}
+
+// The answers that came, each with its number.
+fn write_answers(tally: &Tally, word: &[u8]) {
+    for i in 0..CLAUSES {
+        if count(tally, i) > 0 {
+            write_count(word, i, count(tally, i));
+        }
+    }
+}
+
+// The same of layouts, which have few of the answers.
+pub fn report_layouts(tally: &Tally) {
+    write(b"plans laid out: ", count(tally, TRIAL));
     io::write_all(STDOUT_FILENO, b"\n");
+    write_answers(tally, b"layout's answer ");
+    report_compared(tally);
 }
 
 // How many trials had a difference planted, and how many differences were found in them.

@@ -13,16 +13,16 @@ use crate::numbers::of_byte;
 use crate::numbers::plus;
 
 // Where node p stands, and where link l does.
-fn node_at(p: usize) -> usize {
+pub(crate) fn node_at(p: usize) -> usize {
     plus(3, p % 256 * 5)
 }
 
-fn link_at(nodes: usize, l: usize) -> usize {
+pub(crate) fn link_at(nodes: usize, l: usize) -> usize {
     plus(node_at(nodes), l % 256 * 4)
 }
 
 // How many links a plan of so many bytes and nodes has.
-fn links_in(size: usize, nodes: usize) -> usize {
+pub(crate) fn links_in(size: usize, nodes: usize) -> usize {
     minus(size, plus(node_at(nodes), 1)) / 4
 }
 
@@ -41,7 +41,7 @@ fn any_record(dice: &mut u64, size: usize, nodes: usize) -> usize {
     below(dice, plus(plus(links_in(size, nodes), nodes), 2))
 }
 
-fn any_link_at(dice: &mut u64, size: usize, nodes: usize) -> usize {
+pub(crate) fn any_link_at(dice: &mut u64, size: usize, nodes: usize) -> usize {
     link_at(nodes, below(dice, links_in(size, nodes)))
 }
 

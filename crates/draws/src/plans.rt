@@ -50,6 +50,28 @@ pub struct Wish {
     pub order: usize,
 }
 
+// Most plans are small; some have any size, and some the largest.
+pub fn any_wish(dice: &mut u64) -> Wish {
+    let nodes = match below(dice, 10) {
+        0 => 64,
+        1 => plus(below(dice, 64), 1),
+        _ => plus(below(dice, 10), 1),
+    };
+    let links = match below(dice, 3) {
+        0 => 0,
+        1 => 128,
+        _ => plus(nodes, below(dice, nodes)),
+    };
+    Wish {
+        nodes,
+        links,
+        rounds: plus(below(dice, 3), 1),
+        shape: below(dice, 4),
+        cut: below(dice, 6),
+        order: below(dice, 5),
+    }
+}
+
 fn name(names: &Names, p: usize) -> usize {
     if p < MOST_NODES {
         return of_byte(names[p]);

@@ -42,6 +42,10 @@ pub const TOO_MANY_ROUNDS: u8 = 20;
 
 pub const BUFFER_SHORT: u8 = 21;
 
+pub const TOO_DEEP: u8 = 22;
+
+pub const NO_ROOM_FOR_PLAN: u8 = 23;
+
 // An answer's number and its place; of a list of actions, also how many were taken.
 pub struct Answer {
     pub number: u8,

@@ -2,6 +2,15 @@
 
 ghost use Prim.Native.Nat.{_<_, _≤_};
 
+// The kinds of record: end of plan, rounds, node and link.
+pub const END: usize = 0;
+
+pub const TURNS: usize = 1;
+
+pub const NODE: usize = 2;
+
+pub const LINK: usize = 3;
+
 fn wide(x: u8) -> usize
     ensures { λ r. ⌜ r < 256 ⌝ }
 {

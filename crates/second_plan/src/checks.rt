@@ -158,6 +158,15 @@ fn first_failing(plan: &Plan, joined: usize, check: u8) -> usize {
     MOST_LINKS
 }
 
+// Check 10 alone: the lowest node that no links join to node 0.
+pub fn unjoined(plan: &Plan) -> Answer {
+    let i = first_failing(plan, joined_to_first(plan), NOT_JOINED);
+    if i < MOST_LINKS {
+        return answered(NOT_JOINED, i);
+    }
+    answered(ACCEPTED, 0)
+}
+
 // The first check that the plan fails, and where.
 pub(crate) fn whole_plan(plan: &Plan) -> Answer {
     let joined = joined_to_first(plan);

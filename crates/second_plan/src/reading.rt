@@ -4,23 +4,11 @@
 // then stands at a known place, from which it is entered.
 
 use crate::answers::*;
-use crate::bytes::after;
-use crate::bytes::byte;
-use crate::bytes::cut_short;
-use crate::bytes::two_bytes;
+use crate::bytes::*;
 use crate::checks::whole_plan;
 use crate::memory::*;
 use crate::nodes::enter_sets;
 ghost use Prim.Native.Nat.{_≤_, _<_};
-
-// The kinds of record: end of plan, rounds, node and link.
-const END: usize = 0;
-
-const TURNS: usize = 1;
-
-const NODE: usize = 2;
-
-const LINK: usize = 3;
 
 fn body(kind: usize) -> usize {
     match kind {
@@ -251,20 +239,29 @@ fn enter(plan: &mut Plan, bytes: &[u8], nodes: usize, links: usize) {
     enter_links(plan, bytes, nodes, links);
 }
 
+// Reads the records of the plan at the start of a byte string, and looks at no more than rules 1 to 5: answers 0 to 5, the place of 0
+// being the plan's length.
+pub fn read_records(plan: &mut Plan, bytes: &[u8]) -> Answer {
+    *plan = [0usize; PLAN];
+    let records = judge(bytes);
+    if records.number == ACCEPTED {
+        enter(plan, bytes, records.nodes, records.links);
+    }
+    answered(records.number, records.place)
+}
+
 // Reads the plan at the start of a byte string: answers 0 to 10. "A refused plan hands back a
 // network of zeros."
 pub fn read_plan(plan: &mut Plan, bytes: &[u8]) -> Answer {
-    *plan = [0usize; PLAN];
-    let records = judge(bytes);
+    let records = read_records(plan, bytes);
     if records.number != ACCEPTED {
-        return answered(records.number, records.place);
+        return records;
     }
-    enter(plan, bytes, records.nodes, records.links);
     enter_sets(plan);
     let whole = whole_plan(plan);
     if whole.number != ACCEPTED {
         *plan = [0usize; PLAN];
         return whole;
     }
-    answered(ACCEPTED, records.place)
+    records
 }

@@ -15,37 +15,14 @@ use compare::tally::same;
 use draws::damage::damage_plan;
 use draws::dice::below;
 use draws::numbers::of_byte;
-use draws::numbers::plus;
 use draws::plans::ROOM;
-use draws::plans::Wish;
+use draws::plans::any_wish;
 use draws::plans::make_plan;
 use network::Network;
 
 const SEED: u64 = 588;
 
 const TRIALS: usize = 3000;
-
-// Most plans are small; some have any size, and some the largest.
-fn any_wish(dice: &mut u64) -> Wish {
-    let nodes = match below(dice, 10) {
-        0 => 64,
-        1 => plus(below(dice, 64), 1),
-        _ => plus(below(dice, 10), 1),
-    };
-    let links = match below(dice, 3) {
-        0 => 0,
-        1 => 128,
-        _ => plus(nodes, below(dice, nodes)),
-    };
-    Wish {
-        nodes,
-        links,
-        rounds: plus(below(dice, 3), 1),
-        shape: below(dice, 4),
-        cut: below(dice, 6),
-        order: below(dice, 5),
-    }
-}
 
 // Whole runs of small networks, runs broken off of any.
 fn try_runs(tally: &mut Tally, dice: &mut u64, net: Network) {
@@ -103,4 +80,6 @@ fn main() {
         trial(&mut tally, &mut dice, t);
     }
     report(&tally);
+    layouts::try_drawn();
+    layouts::try_planted();
 }
