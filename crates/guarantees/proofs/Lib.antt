@@ -13,7 +13,6 @@ pub mod Effects
 pub mod Exact
 pub mod Exactly
 pub mod Fits
-pub mod Layouts
 pub mod Links
 pub mod Means
 pub mod Members
@@ -24,6 +23,7 @@ pub mod Outcomes
 pub mod Pinned
 pub mod Plans
 pub mod Promise
+pub mod Promise_W4
 pub mod Promised
 pub mod Reached
 pub mod Records

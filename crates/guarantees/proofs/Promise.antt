@@ -77,7 +77,7 @@ use Rattle.synchronizer.proofs.State.run.Kinds as run-kinds
 use Rattle.synchronizer.proofs.State.run.Reads as run-reads
 
 -- whatever a contract allows meets a promise over the arguments, the result and what was lent
-abbrev Meets : (n : ℕ) (ps : List (PK n)) (r : RK n) → Out n ps r → ((κs : Lfts n) → Dens κs ps → resT r κs .Denot → AtExit (endedOf n ps r) κs → Type 0) → Type 0
+abbrev pub Meets : (n : ℕ) (ps : List (PK n)) (r : RK n) → Out n ps r → ((κs : Lfts n) → Dens κs ps → resT r κs .Denot → AtExit (endedOf n ps r) κs → Type 0) → Type 0
 Meets n ps r Post P = (κs : Lfts n) (a : Dens κs ps) (x : resT r κs .Denot) (t : AtExit (endedOf n ps r) κs) → Post κs a x t → P κs a x t
 
 -- ---- the plan reader, the start state, the table

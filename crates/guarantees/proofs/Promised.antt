@@ -243,10 +243,7 @@ trial-promise s before small short n after e f =
 
 -- ---- demand 3
 
-module _ {bytes : List ℕ} {n : ℕ} (net : Network) (taken : page.Accepted bytes n net) where
-  A : Accepted bytes n net
-  A = accepted-from taken
-
+module _ {bytes : List ℕ} {n : ℕ} (net : Network) (A : Accepted bytes n net) where
   v : validNetwork net ≡ true
   v = accepted-is-valid A
 
@@ -276,15 +273,18 @@ module _ {bytes : List ℕ} {n : ℕ} (net : Network) (taken : page.Accepted byt
     shown-upto (suc n) =
         ap₂ (λ x y. x ++ y) (shown-upto n) (ap (nodeLine n (countOf net s (output n)) (countOf net s (input n))) (holds n (countOf net s (input n)) refl))
 
-    pub demand-3 : Demand3 net s
+    pub reached-demand-3 : Demand3 net s
     unfolding netOf
-    demand-3 =
+    reached-demand-3 =
         record {
           setpoint = λ p k b e. holds p k e;
           near = λ p q hp hq near. omega (arith, counted (output p), counted (output q), Automaton.rounds-near (netOf net) (plan-accepted net A) (there .actions) p q hp hq near .0);
           never-18 = λ a e. no-action net (plan-accepted net A) s there a 18 (sym e) refl;
           shown = shown-upto (net .nodes);
         }
+
+pub demand-3 : {bytes : List ℕ} {n : ℕ} (net : Network) → page.Accepted bytes n net → (s : State) → Reachable net s → Demand3 net s
+demand-3 net taken = reached-demand-3 net (accepted-from taken)
 
 -- the state whose node lines a trial prints is reached by the plan's list, so demand 3 holds of it, and of the lines
 pub printed-demand-3 : {bytes : List ℕ} {n : ℕ} (net : Network) → page.Accepted bytes n net → (s : Done) (r : Ran) → StartPromise net s → ListOutcome net (s .state) (drop n bytes) r → Demand3 net (r .state)
