@@ -14,8 +14,8 @@ use Rattle.actions.specs.declared.Kind.{Kind}
 use Rattle.actions.specs.declared.Record.{Record}
 use Rattle.actions.specs.declared.Record.the-variants.{Unknown, Short, Act}
 use Rattle.actions.specs.Kinds.{numberOf, kinds, indexOf, kindAt}
-use Rattle.actions.specs.Records.{bodyOf, actAt, readAt, bodyTable, actBy, readBy, Holds}
-use Rattle.actions.proofs.Numbers.{seated, number-from-16, number-at, body-at, body-one-or-two}
+use Rattle.actions.specs.Records.{bodyOf, actAt, readAt, Holds}
+use Rattle.actions.proofs.Numbers.{seated, number-from-16, number-at, body-one-or-two}
 
 unknown-no-act : {A : Type 0} {k : Kind} {p q w : ℕ} → Unknown ≡ Act k p q w → A
 unknown-no-act e =
@@ -76,30 +76,6 @@ module _ (s : List ℕ) (at : ℕ) (k : Kind) (p q w : ℕ) where
       found : actAt s at k ≡ Act k p q w
       found =
           lt-elim P (at + bodyOf k) (length s) (Act k (getD s (at + 1) 0) (getD s (at + bodyOf k) 0) (bodyOf k + 1)) Short (λ _. cc (h .first, h .last, h .whole)) (λ l. absurd (omega (arith, h .within, h .whole)))
-
--- ---- by the code's table
-
-act-by : (s : List ℕ) (at : ℕ) (k : Kind) → actBy (bodyOf k) s at k ≡ actAt s at k
-unfolding actBy actAt
-act-by s at k =
-    lt-elim (λ r. r ≡ whole) (at + 1) (length s) whole Short (λ _. refl)
-    (λ h. sym (ifLt-no (at + bodyOf k) (length s) (Act k (getD s (at + 1) 0) (getD s (at + bodyOf k) 0) (bodyOf k + 1)) Short (omega (arith, body-one-or-two k .0))))
-  where
-    whole : Record
-    whole = ifLt (at + bodyOf k) (length s) (Act k (getD s (at + 1) 0) (getD s (at + bodyOf k) 0) (bodyOf k + 1)) Short
-
--- by the table of body lengths the reader reads what the definition does
-pub read-by-table : (s : List ℕ) (at : ℕ) → readBy bodyTable s at ≡ readAt s at
-unfolding readBy readAt
-read-by-table s at = ap (λ r. ifLt at (length s) (ifLt (getD s at 0) 16 Unknown r) Short) seats
-  where
-    i : ℕ
-    i = getD s at 0 - 16
-
-    seats : ifLt i (length kinds) (actBy (getD bodyTable i 0) s at (kindAt i)) Unknown ≡ ifLt i (length kinds) (actAt s at (kindAt i)) Unknown
-    seats =
-        lt-elim (λ r. r ≡ ifLt i (length kinds) (actAt s at (kindAt i)) Unknown) i (length kinds) (actBy (getD bodyTable i 0) s at (kindAt i)) Unknown (λ h. ap (λ b. actBy b s at (kindAt i)) (body-at i h) ∙ act-by s at (kindAt i) ∙ sym (ifLt-yes i (length kinds) (actAt s at (kindAt i)) Unknown h))
-        (λ h. sym (ifLt-no i (length kinds) (actAt s at (kindAt i)) Unknown h))
 
 -- ---- the record's own bytes
 

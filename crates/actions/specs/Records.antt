@@ -42,18 +42,6 @@ readAt s at =
 unfoldable pub bodyTable : List ℕ
 bodyTable = listBelow (λ i. bodyOf (kindAt i)) (length kinds)
 
--- the same by any table of body lengths; a body has one byte at least
-unfoldable pub actBy : ℕ → List ℕ → ℕ → Kind → Record
-actBy body s at k =
-    ifLt (at + 1) (length s) (ifLt (at + body) (length s) (Act k (getD s (at + 1) 0) (getD s (at + body) 0) (body + 1)) Short) Short
-
-unfoldable pub readBy : List ℕ → List ℕ → ℕ → Record
-readBy bodies s at =
-    ifLt at (length s)
-    (ifLt (getD s at 0) 16 Unknown
-    (ifLt (getD s at 0 - 16) (length kinds) (actBy (getD bodies (getD s at 0 - 16) 0) s at (kindAt (getD s at 0 - 16))) Unknown))
-    Short
-
 -- the same for people: what it is for the bytes to hold an action of kind k, width bytes long, at a place
 pub record Holds (s : List ℕ) (at : ℕ) (k : Kind) (p q width : ℕ) : Type 0 where
   pub within : at + width ≤ length s

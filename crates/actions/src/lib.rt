@@ -5,7 +5,7 @@ ghost use Prim.Native.Nat.{_<_, _*_};
 ghost use lib.ListN.{length};
 ghost use Rattle.actions.specs.Kinds.{numberOf, kinds, indexOf, cellOf};
 ghost use Rattle.actions.specs.Table.{placeOf, ownOf, knowsBy, mayGoBy, needOf, everyOf, doesOf};
-ghost use Rattle.actions.specs.Records.{bodyTable, readBy};
+ghost use Rattle.actions.specs.Records.{bodyTable, readAt};
 
 // In document 01's order and words.
 pub enum Kind {
@@ -298,7 +298,7 @@ pub enum Record {
     },
 }
 
-// The table, for a reader that goes through many records.
+// The table, for the limits of the counts: a row of a kind that names one node goes by nodes, any other by directions.
 pub fn bodies() -> [u8; 20]
     ensures { λ r. ⌜ r ≡ bodyTable ⌝ }
 {
@@ -311,10 +311,9 @@ fn wide(x: u8) -> usize
     x as usize
 }
 
-// The record at a place of the bytes, by a table of body lengths indexed by kind minus 16. A body names a node at least. Where it names one, q
-// is p.
-pub fn read(bodies: &[u8; 20], bytes: &[u8], at: usize) -> Record
-    ensures { λ r. ⌜ r ≡ readBy (now (bodies .entry)) (now (bytes .entry)) at ⌝ }
+// The record at a place of the bytes, by the table of body lengths. Where a body names one node, q is p.
+pub fn read(bytes: &[u8], at: usize) -> Record
+    ensures { λ r. ⌜ r ≡ readAt (now (bytes .entry)) at ⌝ }
 {
     if bytes.len() <= at {
         return Record::Short;
@@ -327,15 +326,12 @@ pub fn read(bodies: &[u8; 20], bytes: &[u8], at: usize) -> Record
     if 20 <= i {
         return Record::Unknown;
     }
-    let body = wide(bodies[i]);
-    let first = at + 1;
+    let body = wide(BODIES[i]);
     let last = at + body;
-    if bytes.len() <= first {
-        return Record::Short;
-    }
     if bytes.len() <= last {
         return Record::Short;
     }
+    let first = at + 1;
     let kind = KINDS[i];
     Record::Act {
         kind,

@@ -8,7 +8,7 @@ use mathlib.Core.List.{List, []}
 use lib.ListN.{length, take}
 use lib.Seq.{length-take-le}
 use Rattle.laws.proofs.Choice.{ifLt-yes, ifLt-no, ifEq-yes, ifEq-no}
-use Rattle.records.specs.Keeps.{Bytes}
+use Rattle.laws.specs.Lists.{Bytes}
 use Rattle.records.specs.Plan.{Plan}
 use Rattle.layout.specs.declared.Laid.{Laid}
 use Rattle.layout.specs.Answers.{Holds, LayoutAnswer, by-record, by-10, by-22, by-23, laid-out, Written}

@@ -58,7 +58,7 @@ fn differ(tally: &mut Tally, what: &[u8], place: usize, bench: usize, second: us
 }
 
 // So many numbers that have to be the same on both sides. Where they are not, the place of the first that differs is below `size`.
-pub fn same_list(
+pub(crate) fn same_list(
     tally: &mut Tally,
     what: &[u8],
     size: usize,
@@ -176,8 +176,9 @@ pub fn report_layouts(tally: &Tally) {
     report_compared(tally);
 }
 
-// How many differences were found of those that were planted.
+// How many trials had a difference planted, and how many differences were found in them.
 pub fn report_planted(tally: &Tally) {
-    write(b"planted differences found: ", count(tally, DIFFERENT));
+    write(b"planted: ", count(tally, TRIAL));
+    write(b", found: ", count(tally, DIFFERENT));
     io::write_all(STDOUT_FILENO, b"\n");
 }

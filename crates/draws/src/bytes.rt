@@ -7,7 +7,7 @@ pub fn get(bytes: &[u8], at: usize) -> u8 {
     0
 }
 
-pub fn put(bytes: &mut [u8], at: usize, b: u8) {
+pub(crate) fn put(bytes: &mut [u8], at: usize, b: u8) {
     if at < bytes.len() {
         bytes[at] = b;
     }
@@ -23,7 +23,7 @@ pub fn append(bytes: &mut [u8], size: usize, b: u8) -> usize {
 }
 
 // All of these more, one after the other.
-pub fn append_all(bytes: &mut [u8], size: usize, more: &[u8]) -> usize {
+pub(crate) fn append_all(bytes: &mut [u8], size: usize, more: &[u8]) -> usize {
     let mut at = size;
     for i in 0..more.len() {
         let next = append(bytes, at, more[i]);
@@ -41,7 +41,7 @@ fn move_up(bytes: &mut [u8], at: usize) {
 }
 
 // A byte put in at a place, the rest moved up; how many bytes there then are.
-pub fn insert(bytes: &mut [u8], size: usize, at: usize, b: u8) -> usize {
+pub(crate) fn insert(bytes: &mut [u8], size: usize, at: usize, b: u8) -> usize {
     let longer = append(bytes, size, 0);
     let mut i = longer;
     while at < i {
@@ -53,7 +53,7 @@ pub fn insert(bytes: &mut [u8], size: usize, at: usize, b: u8) -> usize {
 }
 
 // The byte at a place taken out, the rest moved down; how many bytes are left.
-pub fn remove(bytes: &mut [u8], size: usize, at: usize) -> usize {
+pub(crate) fn remove(bytes: &mut [u8], size: usize, at: usize) -> usize {
     if size <= at {
         return size;
     }
@@ -67,7 +67,7 @@ pub fn remove(bytes: &mut [u8], size: usize, at: usize) -> usize {
 }
 
 // So many bytes taken out at a place.
-pub fn remove_all(bytes: &mut [u8], size: usize, at: usize, count: usize) -> usize {
+pub(crate) fn remove_all(bytes: &mut [u8], size: usize, at: usize, count: usize) -> usize {
     let mut left = size;
     for _ in 0..count {
         let shorter = remove(bytes, left, at);

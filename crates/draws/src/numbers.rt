@@ -1,18 +1,28 @@
 // Numbers from one width to another. A narrowing one keeps the low bytes.
+ghost use mathlib.Core.Path.{_≡_};
+ghost use Prim.Native.Nat.{_%_};
 
-pub fn byte(x: usize) -> u8 {
+pub fn byte(x: usize) -> u8
+    ensures { λ r. ⌜ r ≡ x % 256 ⌝ }
+{
     (x % 256) as u8
 }
 
-pub fn word(x: usize) -> u16 {
+pub fn word(x: usize) -> u16
+    ensures { λ r. ⌜ r ≡ x % 65536 ⌝ }
+{
     (x % 65536) as u16
 }
 
-pub fn of_byte(x: u8) -> usize {
+pub fn of_byte(x: u8) -> usize
+    ensures { λ r. ⌜ r ≡ x ⌝ }
+{
     x as usize
 }
 
-pub fn of_word(x: u16) -> usize {
+pub fn of_word(x: u16) -> usize
+    ensures { λ r. ⌜ r ≡ x ⌝ }
+{
     x as usize
 }
 

@@ -21,7 +21,8 @@ use Rattle.automaton.specs.Global.{Global}
 use Rattle.automaton.specs.Answer.{must, known, room, answer}
 use Rattle.automaton.specs.Run.{after}
 use Rattle.automaton.proofs.Runs.{Allowed, answer-allowed}
-use Rattle.guarantees.specs.Reading.{netOf, kindOf, read}
+use Rattle.guarantees.specs.Kinds.{kindOf}
+use Rattle.guarantees.specs.Reading.{netOf, read}
 use Rattle.guarantees.proofs.Tables.{doing}
 use Rattle.guarantees.proofs.Answers as Answers
 use Rattle.guarantees.proofs.Answers.{legal-seated}

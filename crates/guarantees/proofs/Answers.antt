@@ -36,7 +36,8 @@ use Rattle.automaton.specs.Needs.{packetFirst, ackFirst}
 use Rattle.automaton.specs.Global.{Global}
 use Rattle.automaton.specs.Lists.{every}
 use Rattle.automaton.specs.Answer.{must, packetAtFront, ackAtFront, met, fits, known, legal, next, inTime, enabled, room, answer}
-use Rattle.guarantees.specs.Reading.{joins, directionOf, netOf, kindOf, namesLink, seated, countOf, waitingIn, read}
+use Rattle.guarantees.specs.Kinds.{kindOf}
+use Rattle.guarantees.specs.Reading.{joins, directionOf, netOf, namesLink, seated, countOf, waitingIn, read}
 use Rattle.guarantees.proofs.Links.{neighbour-is, preferred-is, prefers-joins}
 use Rattle.guarantees.proofs.Directions.{direction-below, lane-is}
 use Rattle.guarantees.proofs.Tables.{placeAs, sendsOne, moves, needed, leading, queueNeeds, everyNeeds, rowOf}

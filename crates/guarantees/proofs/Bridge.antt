@@ -7,7 +7,7 @@ use Rattle.network.specs.declared.Network.{Network}
 use Rattle.network.specs.Valid.{validNetwork}
 use Rattle.synchronizer.proofs.Keeps.{taken-keeps}
 use Rattle.automaton.specs.Actions.{bodyOf}
-use Rattle.guarantees.specs.Reading.{kindOf}
+use Rattle.guarantees.specs.Kinds.{kindOf}
 use Rattle.guarantees.specs.Bridge.{Bridge}
 pub use Rattle.guarantees.proofs.After.{answer-is, after-is}
 use Rattle.guarantees.proofs.Whole.{one-reading}

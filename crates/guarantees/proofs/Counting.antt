@@ -9,7 +9,7 @@ use mathlib.Core.Bool.{Bool, true, false}
 use lib.ListN.{getD, set}
 use lib.Seq.{getD-set-same, getD-set-other}
 use Rattle.laws.specs.Choice.{ifB}
-use Rattle.laws.proofs.Choice.{true-not-false}
+use Rattle.laws.proofs.Choice.{ifB-no, true-not-false}
 use Rattle.network.specs.declared.Network.{Network}
 use Rattle.network.specs.Valid.{validNetwork}
 use Rattle.actions.specs.declared.Does.{Does}
@@ -23,7 +23,8 @@ use Rattle.synchronizer.specs.Valid.{Sized}
 use Rattle.automaton.specs.Actions.{Act, same, bodyOf}
 use Rattle.automaton.specs.Run.{after}
 use Rattle.automaton.proofs.Effects.{same-eq, same-self, count-raised, count-untouched}
-use Rattle.guarantees.specs.Reading.{netOf, kindOf, seated, seatOf, countOf, read}
+use Rattle.guarantees.specs.Kinds.{kindOf}
+use Rattle.guarantees.specs.Reading.{cellAt, netOf, seated, seatOf, countOf, read}
 use Rattle.guarantees.proofs.Seats.{counterOf, seat-in-row, own-is, same-seat}
 use Rattle.guarantees.proofs.Needs.{count-read}
 
@@ -60,15 +61,20 @@ module _ (net : Network) (v : validNetwork net ≡ true) (s : State) (z : Sized 
 
   -- any other
   other-stays : (b : Act) → same a b ≡ false → countOf net taken b ≡ countOf net s b
-  unfolding countOf ifB
+  unfolding countOf
   other-stays b f = at (seated net b) refl
     where
-      at : (t : Bool) → seated net b ≡ t → ifB t (getD (taken .counts) (cellOf (counterOf net b)) 0) 0 ≡ ifB t (getD (s .counts) (cellOf (counterOf net b)) 0) 0
+      none : (t : State) → seated net b ≡ false → countOf net t b ≡ 0
+      none t is = ifB-no (seated net b) (getD (t .counts) (cellAt b (seatOf net b)) 0) 0 is
+
+      at : (t : Bool) → seated net b ≡ t → countOf net taken b ≡ countOf net s b
       at true is =
-          ap (λ l. countIn l (counterOf net b)) counts-after
+          count-read net v taken b is
+          ∙ ap (λ l. countIn l (counterOf net b)) counts-after
           ∙ getD-set-other (s .counts) (cellOf (counterOf net a)) (cellOf (counterOf net b)) _ 0
           (λ x. true-not-false (same a b) (subst (λ y. same a y ≡ true) (same-seat net v a b e is (sym x)) (same-self a)) f)
-      at false is = refl
+          ∙ sym (count-read net v s b is)
+      at false is = none taken is ∙ sym (none s is)
 
   pub count-after : (b : Act) → countOf net (afterOf net s (kindOf a) (bodyOf a .p) (bodyOf a .q)) b ≡ after (netOf net) (read net s) a .count b
   unfolding taken read

@@ -9,10 +9,11 @@ use mathlib.Core.Path.{_≡_, sym, _∙_, ap, subst}
 use mathlib.Core.Bool.{true}
 use mathlib.Core.List.{List, map}
 use lib.ListN.{length, getD, length-map}
+use Rattle.laws.specs.Lists.{Bytes}
+use Rattle.laws.proofs.Choice.{ifB-yes, ifLt-no}
 use Rattle.network.specs.declared.Network.{Network}
 use Rattle.network.specs.Sets.{withSets}
 use Rattle.network.specs.Valid.{validNetwork}
-use Rattle.records.specs.Keeps.{Bytes}
 use Rattle.records.specs.Plan.{networkOf}
 use Rattle.records.specs.Reader.{acceptedWith}
 use Rattle.records.proofs.Lists.{length-padded}
@@ -24,14 +25,17 @@ use Rattle.lockstep.specs.Table.{tableNumber, tableOf}
 use Rattle.lockstep.proofs.Tables.{table-at}
 use Rattle.synchronizer.specs.declared.State.{State}
 use Rattle.synchronizer.specs.Start.{startOf}
+use Rattle.automaton.specs.Actions.{input}
 use Rattle.automaton.specs.Clusters.{Near}
-use Rattle.guarantees.specs.Reading.{netOf}
+use Rattle.guarantees.specs.Reading.{netOf, read}
 use Rattle.guarantees.specs.Steps.{Step, stateAfterAll, answerTo, started, finished}
 use Rattle.guarantees.proofs.Plans.{plan-accepted}
 use Rattle.guarantees.proofs.Demand3 as start
+use Rattle.guarantees.proofs.Fits.{valid-fits}
+use Rattle.guarantees.proofs.Reached.{all-reached, finished-read}
 
 -- an accepted plan's network has its 64 start values
-starts-64 : {s : List ℕ} {n : ℕ} (net : Network) → Accepted s n net → length (net .starts) ≡ 64
+pub starts-64 : {s : List ℕ} {n : ℕ} (net : Network) → Accepted s n net → length (net .starts) ≡ 64
 unfolding withSets networkOf
 starts-64 net A =
     ap (λ (x : Network). length (x .starts)) (A .network)
@@ -48,10 +52,23 @@ module _ (s : List ℕ) (small : Bytes s) (n : ℕ) (net : Network) (read-as : p
   abbrev pub reached : State
   reached = stateAfterAll net (startOf net .state) steps
 
-  -- a controller that has finished k rounds holds the setpoint of a lockstep run of k rounds
-  pub setpoint : (p k : ℕ) (out : List ℕ) → p < net .nodes → tableNumber net k (length out) ≡ 0 → finished reached p ≡ k → getD (reached .values) p 0 ≡ getD (tableOf net k out) p 0
-  setpoint p k out h t e =
-      start.setpoint net v (starts-64 net A) (plan-accepted net A) steps p k h e ∙ sym (table-at net k out t p h)
+  -- no controller finishes more rounds than the plan has
+  pub in-rounds : (p : ℕ) → p < net .nodes → finished reached p ≤ net .rounds
+  unfolding read
+  in-rounds p h =
+      omega (arith, finished-read net v reached p h, valid-fits net v reached (all-reached net v (starts-64 net A) steps .valid) .counts (input p))
+
+  -- so its table is not refused by 20
+  tabled : (p : ℕ) (out : List ℕ) → p < net .nodes → net .nodes ≤ length out → tableNumber net (finished reached p) (length out) ≡ 0
+  unfolding tableNumber
+  tabled p out h room =
+      ifB-yes (validNetwork net) _ _ v ∙ ifLt-no (net .rounds) (finished reached p) _ _ (in-rounds p h) ∙ ifLt-no (length out) (net .nodes) _ _ room
+
+  -- a controller that has finished k rounds holds the setpoint of a lockstep run of k rounds: the table's entry in every buffer with room for it
+  pub setpoint : (p k : ℕ) (out : List ℕ) → p < net .nodes → net .nodes ≤ length out → finished reached p ≡ k → getD (reached .values) p 0 ≡ getD (tableOf net k out) p 0
+  setpoint p k out h room e =
+      start.setpoint net v (starts-64 net A) (plan-accepted net A) steps p k h e
+      ∙ sym (table-at net k out (subst (λ (r : ℕ). tableNumber net r (length out) ≡ 0) e (tabled p out h room)) p h)
 
   -- two controllers in one cluster, or in two clusters joined by a link
   pub rounds-near :

@@ -8,12 +8,13 @@ use mathlib.Core.Logic.{_⊎_, inl, inr}
 use mathlib.Core.Bool.{true, false}
 use mathlib.Core.List.{List, [], _∷_}
 use lib.ListN.{length}
+use Rattle.laws.specs.Lists.{Bytes}
 use Rattle.laws.proofs.Choice.{b-elim, lt-elim, eq-elim}
 use Rattle.network.specs.declared.Network.{Network}
 use Rattle.network.specs.Valid.{validNetwork}
 use Rattle.records.specs.declared.Planned.{Planned}
 use Rattle.records.specs.Numbers.{accepted}
-use Rattle.records.specs.Keeps.{Bytes, BreaksAt, bytes-end, unknown, short, whole, BreaksFirst, order, number, range}
+use Rattle.records.specs.Keeps.{BreaksAt, bytes-end, unknown, short, whole, BreaksFirst, order, number, range}
 use Rattle.records.specs.Plan.{Plan}
 use Rattle.records.specs.declared.Record.{Record}
 use Rattle.network.specs.Zeros.{zeroNetwork}
@@ -34,7 +35,8 @@ use Rattle.automaton.specs.Answer.{answer}
 use Rattle.automaton.specs.Global.{Global}
 use Rattle.automaton.specs.Network.{Net}
 use Rattle.guarantees.specs.Among.{Among, planNumbers, startNumbers, methodNumbers, actionNumbers, tableNumbers}
-use Rattle.guarantees.specs.Reading.{netOf, read, kindOf}
+use Rattle.guarantees.specs.Kinds.{kindOf}
+use Rattle.guarantees.specs.Reading.{netOf, read}
 use Rattle.guarantees.specs.Outcome as outcome
 use Rattle.guarantees.proofs.Outcomes.{method-outcome, act-outcome, list-outcome}
 use Rattle.guarantees.proofs.Exactly.{answer-elim}

@@ -31,7 +31,8 @@ use Rattle.automaton.specs.Run.{onQueue, onSlot, onValue, after}
 use Rattle.automaton.proofs.Effects.{same-eq, slot-untouched, value-untouched}
 use Rattle.automaton.proofs.Order.{enabled-met}
 use Rattle.automaton.proofs.Runs.{Allowed}
-use Rattle.guarantees.specs.Reading.{joins, directionOf, netOf, kindOf, namesLink, seated, waitingIn, read}
+use Rattle.guarantees.specs.Kinds.{kindOf}
+use Rattle.guarantees.specs.Reading.{joins, directionOf, netOf, namesLink, seated, waitingIn, read}
 use Rattle.guarantees.proofs.Tables.{sendsOne, rowOf, quiet, Doing, packetJoins, packetLeaves, ackJoins, ackLeaves, means, nothing}
 use Rattle.guarantees.proofs.Waiting.{ack-waits}
 use Rattle.guarantees.proofs.Answers.{queue-read}

@@ -22,10 +22,12 @@ use Rattle.automaton.specs.Network.{Net}
 use Rattle.automaton.specs.Global.{Global}
 use Rattle.automaton.specs.Answer.{must, known, legal, inTime, enabled, room, answer}
 use Rattle.automaton.specs.Run.{after, step}
-use Rattle.guarantees.specs.Reading.{netOf, kindOf, read}
+use Rattle.guarantees.specs.Kinds.{kindOf}
+use Rattle.guarantees.specs.Reading.{netOf, read}
 use Rattle.guarantees.specs.Outcome as Outcome
-use Rattle.guarantees.specs.Outcome.{Names, UnknownAt, CutAt, ActOutcome}
-use Rattle.guarantees.proofs.Outcomes.{in-range, judged-in, act-outcome}
+use Rattle.guarantees.specs.Records.{Names, UnknownAt, CutAt}
+use Rattle.guarantees.specs.Outcome.{ActOutcome}
+use Rattle.guarantees.proofs.Outcomes.{in-range, within-of, in-of, not-within, out-of, judged-in, act-outcome}
 use Rattle.guarantees.proofs.Only.{act-is, refused-same}
 
 -- the automaton's answers: 0, 13, 14, 15, 16, 18
@@ -59,10 +61,10 @@ module _ (net : Network) (s : State) (z : Sized s) (bytes : List ℕ) where
 
   pub answer-17 : (r .answer ≡ 17) ↔ (inRange net s ≡ false)
   unfolding ofAction ifEq both ifB
-  answer-17 = (λ e. to e (act-outcome net s z bytes), λ out. number (acted 17 0 s) 17 refl (Outcome.ActOutcome.outOfRange out refl))
+  answer-17 = (λ e. to e (act-outcome net s z bytes), λ out. number (acted 17 0 s) 17 refl (Outcome.ActOutcome.outOfRange (not-within net s out) refl))
     where
       to : r .answer ≡ 17 → ActOutcome net s bytes r → inRange net s ≡ false
-      to e (Outcome.ActOutcome.outOfRange out _) = out
+      to e (Outcome.ActOutcome.outOfRange out _) = out-of net s out
       to e (Outcome.ActOutcome.unknown _ _ is) = absurd (not-given 17 11 (acted 11 0 s) is refl e refl)
       to e (Outcome.ActOutcome.cut _ _ is) = absurd (not-given 17 12 (acted 12 0 s) is refl e refl)
       to e (Outcome.ActOutcome.judged _ a _ _ j _) = absurd (no-action (netOf net) (read net s) a (r .answer) 17 (j .number) e refl)
@@ -72,20 +74,20 @@ module _ (net : Network) (s : State) (z : Sized s) (bytes : List ℕ) where
   module _ (within : inRange net s ≡ true) where
     pub answer-11 : (r .answer ≡ 11) ↔ UnknownAt bytes 0
     unfolding ofAction ifEq both ifB
-    answer-11 = (λ e. to e (act-outcome net s z bytes), λ u. number (acted 11 0 s) 11 refl (Outcome.ActOutcome.unknown within u refl))
+    answer-11 = (λ e. to e (act-outcome net s z bytes), λ u. number (acted 11 0 s) 11 refl (Outcome.ActOutcome.unknown (within-of net s within) u refl))
       where
         to : r .answer ≡ 11 → ActOutcome net s bytes r → UnknownAt bytes 0
-        to e (Outcome.ActOutcome.outOfRange out _) = absurd (true-not-false (inRange net s) within out)
+        to e (Outcome.ActOutcome.outOfRange out _) = absurd (out (within-of net s within))
         to e (Outcome.ActOutcome.unknown _ u _) = u
         to e (Outcome.ActOutcome.cut _ _ is) = absurd (not-given 11 12 (acted 12 0 s) is refl e refl)
         to e (Outcome.ActOutcome.judged _ a _ _ j _) = absurd (no-action (netOf net) (read net s) a (r .answer) 11 (j .number) e refl)
 
     pub answer-12 : (r .answer ≡ 12) ↔ CutAt bytes 0
     unfolding ofAction ifEq both ifB
-    answer-12 = (λ e. to e (act-outcome net s z bytes), λ c. number (acted 12 0 s) 12 refl (Outcome.ActOutcome.cut within c refl))
+    answer-12 = (λ e. to e (act-outcome net s z bytes), λ c. number (acted 12 0 s) 12 refl (Outcome.ActOutcome.cut (within-of net s within) c refl))
       where
         to : r .answer ≡ 12 → ActOutcome net s bytes r → CutAt bytes 0
-        to e (Outcome.ActOutcome.outOfRange out _) = absurd (true-not-false (inRange net s) within out)
+        to e (Outcome.ActOutcome.outOfRange out _) = absurd (out (within-of net s within))
         to e (Outcome.ActOutcome.unknown _ _ is) = absurd (not-given 12 11 (acted 11 0 s) is refl e refl)
         to e (Outcome.ActOutcome.cut _ c _) = c
         to e (Outcome.ActOutcome.judged _ a _ _ j _) = absurd (no-action (netOf net) (read net s) a (r .answer) 12 (j .number) e refl)
@@ -99,7 +101,7 @@ module _ (net : Network) (s : State) (z : Sized s) (bytes : List ℕ) where
         other m given e o = true-not-false (ofAction n) of (ap ofAction (sym e ∙ given) ∙ o)
 
         to : r .answer ≡ n → ActOutcome net s bytes r → (a : Act) × (width : ℕ) × Names bytes 0 a width × (answer (netOf net) (read net s) a ≡ n)
-        to e (Outcome.ActOutcome.outOfRange out _) = absurd (true-not-false (inRange net s) within out)
+        to e (Outcome.ActOutcome.outOfRange out _) = absurd (out (within-of net s within))
         to e (Outcome.ActOutcome.unknown _ _ is) = absurd (other 11 (ap (λ (y : Acted). y .answer) is) e refl)
         to e (Outcome.ActOutcome.cut _ _ is) = absurd (other 12 (ap (λ (y : Acted). y .answer) is) e refl)
         to e (Outcome.ActOutcome.judged _ a width h j _) = (a, width, h, sym (j .number) ∙ e)
@@ -109,7 +111,7 @@ module _ (net : Network) (s : State) (z : Sized s) (bytes : List ℕ) where
             let (v, valid) = in-range net s within in
             let d = doneIn (wiresOf net) s (kindOf a) (bodyOf a .p) (bodyOf a .q) in
             let j = judged-in net v s valid z a in
-            number (acted (d .answer) (ifEq (d .answer) 0 width 0) (d .state)) n (j .number ∙ is) (Outcome.ActOutcome.judged within a width h j refl)
+            number (acted (d .answer) (ifEq (d .answer) 0 width 0) (d .state)) n (j .number ∙ is) (Outcome.ActOutcome.judged (within-of net s within) a width h j refl)
 
     -- a taken action: which it is, the bytes read, and the state that follows
     pub taken : r .answer ≡ 0 → (a : Act) × (width : ℕ) × Names bytes 0 a width × (answer (netOf net) (read net s) a ≡ 0) × (r .place ≡ width) × (read net (r .state) ≡ after (netOf net) (read net s) a)
@@ -117,7 +119,7 @@ module _ (net : Network) (s : State) (z : Sized s) (bytes : List ℕ) where
     taken e = to (act-outcome net s z bytes)
       where
         to : ActOutcome net s bytes r → (a : Act) × (width : ℕ) × Names bytes 0 a width × (answer (netOf net) (read net s) a ≡ 0) × (r .place ≡ width) × (read net (r .state) ≡ after (netOf net) (read net s) a)
-        to (Outcome.ActOutcome.outOfRange out _) = absurd (true-not-false (inRange net s) within out)
+        to (Outcome.ActOutcome.outOfRange out _) = absurd (out (within-of net s within))
         to (Outcome.ActOutcome.unknown _ _ is) = absurd (not-given 0 11 (acted 11 0 s) is refl e refl)
         to (Outcome.ActOutcome.cut _ _ is) = absurd (not-given 0 12 (acted 12 0 s) is refl e refl)
         to (Outcome.ActOutcome.judged _ a width h j place) =
@@ -133,5 +135,5 @@ module _ (net : Network) (s : State) (z : Sized s) (bytes : List ℕ) where
       to (Outcome.ActOutcome.unknown _ _ is) = (ap (λ (y : Acted). y .place) is, ap (λ (y : Acted). y .state) is)
       to (Outcome.ActOutcome.cut _ _ is) = (ap (λ (y : Acted). y .place) is, ap (λ (y : Acted). y .state) is)
       to (Outcome.ActOutcome.judged within a width _ j place) =
-          let (v, valid) = in-range net s within in
+          let (v, valid) = in-range net s (in-of net s within) in
           (place ∙ ifEq-no (r .answer) 0 width 0 (λ e. omega arith), refused-same net v s (r .state) a (r .answer) valid z j h)

@@ -1,6 +1,8 @@
 pub mod After
 pub mod Answers
 pub mod Bridge
+pub mod ByRecords
+pub mod Bytes
 pub mod Choices
 pub mod Counting
 pub mod Demand
@@ -8,8 +10,9 @@ pub mod Demand1
 pub mod Demand3
 pub mod Directions
 pub mod Effects
+pub mod Exact
 pub mod Exactly
-pub mod Layouts
+pub mod Fits
 pub mod Links
 pub mod Means
 pub mod Members
@@ -17,7 +20,11 @@ pub mod Messages
 pub mod Needs
 pub mod Only
 pub mod Outcomes
+pub mod Pinned
 pub mod Plans
+pub mod Promise
+pub mod Promise_W4
+pub mod Promised
 pub mod Reached
 pub mod Records
 pub mod Seats

@@ -29,7 +29,8 @@ use Rattle.automaton.specs.Actions.{same, input, bodyOf}
 use Rattle.automaton.specs.Global.{parity}
 use Rattle.automaton.specs.Run.{heard, after}
 use Rattle.automaton.proofs.Effects.{same-eq, same-self, value-set, value-untouched}
-use Rattle.guarantees.specs.Reading.{joins, netOf, kindOf, namesLink, seated, countOf, read}
+use Rattle.guarantees.specs.Kinds.{kindOf}
+use Rattle.guarantees.specs.Reading.{joins, netOf, namesLink, seated, countOf, read}
 use Rattle.guarantees.proofs.Links.{joins-back, neighbour-is, neighbours-are}
 use Rattle.guarantees.proofs.Directions.{lane-is}
 use Rattle.guarantees.proofs.Answers.{own-read}

@@ -20,7 +20,8 @@ use Rattle.automaton.specs.Actions.{Act, same, decided, packetSent, packetDeliv
 use Rattle.automaton.specs.Global.{Msg, packet, ack}
 use Rattle.automaton.specs.Run.{onQueue, after}
 use Rattle.automaton.proofs.Effects.{same-eq, same-self}
-use Rattle.guarantees.specs.Reading.{joins, directionOf, netOf, kindOf, messageOf, waitingIn, read}
+use Rattle.guarantees.specs.Kinds.{kindOf}
+use Rattle.guarantees.specs.Reading.{joins, directionOf, netOf, messageOf, waitingIn, read}
 use Rattle.guarantees.proofs.Directions.{direction-below, direction-in-row, one-direction, lane-is}
 use Rattle.guarantees.proofs.Waiting.{waitingOf, push-here, push-there, pop-here, pop-there}
 

@@ -32,9 +32,11 @@ use Rattle.automaton.specs.Network.{isRoot, neighbours, children, preferredNeig
 use Rattle.automaton.specs.Needs.{Need, has, know, may}
 use Rattle.automaton.specs.Lists.{every}
 use Rattle.automaton.specs.Answer.{met}
-use Rattle.guarantees.specs.Reading.{joins, netOf, kindOf, namesLink, seated, seatOf, countOf, read}
+use Rattle.guarantees.specs.Kinds.{kindOf}
+use Rattle.guarantees.specs.Reading.{cellAt, joins, netOf, namesLink, seated, seatOf, countOf, read}
 use Rattle.guarantees.proofs.Links.{joins-back, prefers-joins, nodes-below, neighbour-is, preferred-is, member-child, neighbours-are, children-are, preferred-neighbours-are}
 use Rattle.guarantees.proofs.Directions.{lane-is}
+use Rattle.guarantees.proofs.Bytes.{cell-is}
 use Rattle.guarantees.proofs.Seats.{counterOf, seat-of-link, seated-link, seat-of-node, seated-node}
 use Rattle.guarantees.proofs.Tables.{actionOf, placeAs, needed, everyNeeds, Fitting}
 use Rattle.guarantees.proofs.Members.{every-append, all-members}
@@ -97,7 +99,7 @@ module _ (net : Network) (v : validNetwork net ≡ true) where
   -- a count that is there is read
   pub count-read : (s : State) (b : Act) → seated net b ≡ true → countOf net s b ≡ countIn (s .counts) (counterOf net b)
   unfolding countOf
-  count-read s b e = ifB-yes (seated net b) (countIn (s .counts) (counterOf net b)) 0 e
+  count-read s b e = ifB-yes (seated net b) (getD (s .counts) (cellAt b (seatOf net b)) 0) 0 e ∙ ap (λ c. getD (s .counts) c 0) (cell-is b (seatOf net b))
 
   pub need-read : (s : State) (a : Act) → seated net a ≡ true → countIn (s .counts) (needOf (kindOf a) (bodyOf a .p) (aroundOf (wiresOf net) (bodyOf a .p) (bodyOf a .q))) ≡ countOf net s (needed (netOf net) a)
   need-read s a e =

@@ -22,24 +22,28 @@ use Rattle.automaton.specs.Actions.{Act, bodyOf}
 use Rattle.automaton.specs.Global.{Global}
 use Rattle.automaton.specs.Answer.{answer}
 use Rattle.automaton.specs.Run.{after, step, run}
-use Rattle.guarantees.specs.Reading.{netOf, kindOf, read}
+use Rattle.guarantees.specs.Kinds.{kindOf}
+use Rattle.guarantees.specs.Reading.{netOf, read}
 use Rattle.guarantees.specs.Outcome as Outcome
-use Rattle.guarantees.specs.Outcome.{Judged, MethodOutcome, Names, UnknownAt, CutAt, ActOutcome, Taken, Stopped, atEnd, refused, ListOutcome}
+use Rattle.guarantees.specs.Records.{Names, UnknownAt, CutAt}
+use Rattle.guarantees.specs.Outcome.{Judged, MethodOutcome, ActOutcome, Taken, Stopped, atEnd, refused, ListOutcome}
+use Rattle.guarantees.proofs.Bytes.{names-inside}
 use Rattle.guarantees.proofs.Records.{unknown-read, cut-read, names-read}
 use Rattle.guarantees.proofs.Whole.{one-reading}
-use Rattle.guarantees.proofs.Outcomes.{in-range, judged-in, acted-as}
+use Rattle.guarantees.proofs.Fits.{valid-fits, fits-valid}
+use Rattle.guarantees.proofs.Outcomes.{in-range, in-of, out-of, judged-in, acted-as}
 
 module _ (net : Network) (v : validNetwork net ≡ true) where
   -- an action has one answer, and one state follows
   pub judged-once : (s s′ s″ : State) (a : Act) (n m : ℕ) → Judged net s a n s′ → Judged net s a m s″ → (n ≡ m) × (s′ ≡ s″)
   judged-once s s′ s″ a n m j k =
-      (j .number ∙ sym (k .number), one-reading net v s′ s″ (j .valid, j .sized) (k .valid, k .sized) (j .follows ∙ sym (k .follows)))
+      (j .number ∙ sym (k .number), one-reading net v s′ s″ (fits-valid net v s′ (j .valid), j .sized) (fits-valid net v s″ (k .valid), k .sized) (j .follows ∙ sym (k .follows)))
 
   -- "a refused action hands the state back as it came"
   pub refused-same : (s s′ : State) (a : Act) (n : ℕ) → validState net s ≡ true → Sized s → Judged net s a n s′ → 0 < n → s′ ≡ s
   unfolding step
   refused-same s s′ a n valid z j h =
-      one-reading net v s′ s (j .valid, j .sized) (valid, z)
+      one-reading net v s′ s (fits-valid net v s′ (j .valid), j .sized) (valid, z)
       (j .follows ∙ ifEq-no (answer (netOf net) (read net s) a) 0 _ _ (λ e. omega (arith, j .number)))
 
   -- ---- one turn
@@ -72,7 +76,7 @@ module _ (net : Network) (v : validNetwork net ≡ true) where
     stopped-within g at n (atEnd e _) = omega arith
     stopped-within g at n (Outcome.Stopped.unknown u _) = omega (arith, u .within)
     stopped-within g at n (Outcome.Stopped.cut inside _ _) = omega arith
-    stopped-within g at n (refused a width h _ _) = omega (arith, h .within)
+    stopped-within g at n (refused a width h _ _) = omega (arith, names-inside h .1)
 
     -- a list that stops at once
     stop-is : (turns : ℕ) (s : State) → validState net s ≡ true → Sized s → (at before n : ℕ) → Stopped (netOf net) (read net s) bytes at n → ran n at before s ≡ listFrom (suc turns) (wiresOf net) s bytes at before
@@ -95,8 +99,8 @@ module _ (net : Network) (v : validNetwork net ≡ true) where
         by (Outcome.Stopped.cut inside c e) =
             at-record inside 0 (turn-cut s valid z bytes at c ∙ ap (λ k. acted k 0 s) (sym e)) (omega arith)
         by (refused a width h e some) =
-            at-record (omega (arith, h .within, h .whole)) (ifEq n 0 width 0)
-            (turn-named s valid z bytes at a width n s h (record { number = e; follows = sym (ifEq-no (answer (netOf net) (read net s) a) 0 _ _ (λ o. omega arith)); valid = valid; sized = z }))
+            at-record (omega (arith, names-inside h .0, names-inside h .1)) (ifEq n 0 width 0)
+            (turn-named s valid z bytes at a width n s h (record { number = e; follows = sym (ifEq-no (answer (netOf net) (read net s) a) 0 _ _ (λ o. omega arith)); valid = valid-fits net v s valid; sized = z }))
             some
 
     list-from-is :
@@ -121,39 +125,39 @@ module _ (net : Network) (v : validNetwork net ≡ true) where
         let place : x .place ≡ width = ap (λ (y : Acted). y .place) is ∙ ifEq-yes (d .answer) 0 width 0 none in
         let state : x .state ≡ d .state = ap (λ (y : Acted). y .state) is in
         let same : read net (d .state) ≡ after (netOf net) (read net s) a = j .follows ∙ ifEq-yes (answer (netOf net) (read net s) a) 0 _ _ e in
-        list-from-is l turns (d .state) (j .valid) (j .sized) (at + width) (before + 1) r (omega (arith, h .whole)) (subst (λ g. Taken (netOf net) g bytes (at + width) l (r .place)) (sym same) rest) (omega arith) (follows ∙ ap (λ g. run (netOf net) g l) (sym (j .follows))) stopped ok sized
-        ∙ sym (ifLt-yes at (length bytes) _ (ran 0 at before s) (omega (arith, h .within, h .whole)) ∙ ifEq-yes (x .answer) 0 _ (ran (x .answer) at before s) (ap (λ (y : Acted). y .answer) is ∙ none) ∙ (λ i. listFrom turns (wiresOf net) (state i) bytes (at + place i) (before + 1)))
+        list-from-is l turns (d .state) (fits-valid net v (d .state) (j .valid)) (j .sized) (at + width) (before + 1) r (omega (arith, names-inside h .0)) (subst (λ g. Taken (netOf net) g bytes (at + width) l (r .place)) (sym same) rest) (omega arith) (follows ∙ ap (λ g. run (netOf net) g l) (sym (j .follows))) stopped ok sized
+        ∙ sym (ifLt-yes at (length bytes) _ (ran 0 at before s) (omega (arith, names-inside h .0, names-inside h .1)) ∙ ifEq-yes (x .answer) 0 _ (ran (x .answer) at before s) (ap (λ (y : Acted). y .answer) is ∙ none) ∙ (λ i. listFrom turns (wiresOf net) (state i) bytes (at + place i) (before + 1)))
 
 -- ---- the entry points
 
 module _ (net : Network) (s : State) (z : Sized s) where
   pub method-is : (a : Act) (r : Done) → MethodOutcome net s a r → r ≡ doneOf net s (kindOf a) (bodyOf a .p) (bodyOf a .q)
   unfolding doneOf
-  method-is a r (Outcome.MethodOutcome.outOfRange e is) = is ∙ sym (ifB-no (inRange net s) _ (done 17 s) e)
+  method-is a r (Outcome.MethodOutcome.outOfRange e is) = is ∙ sym (ifB-no (inRange net s) _ (done 17 s) (out-of net s e))
   method-is a r (Outcome.MethodOutcome.judged e j) =
-      let (v, valid) = in-range net s e in
+      let (v, valid) = in-range net s (in-of net s e) in
       let d = doneIn (wiresOf net) s (kindOf a) (bodyOf a .p) (bodyOf a .q) in
       let (number, state) = judged-once net v s (r .state) (d .state) a (r .answer) (d .answer) j (judged-in net v s valid z a) in
-      (λ i. done (number i) (state i)) ∙ sym (ifB-yes (inRange net s) d (done 17 s) e)
+      (λ i. done (number i) (state i)) ∙ sym (ifB-yes (inRange net s) d (done 17 s) (in-of net s e))
 
   pub act-is : (bytes : List ℕ) (r : Acted) → ActOutcome net s bytes r → r ≡ actOf net s bytes
   unfolding actOf
-  act-is bytes r (Outcome.ActOutcome.outOfRange e is) = is ∙ sym (ifB-no (inRange net s) _ (acted 17 0 s) e)
+  act-is bytes r (Outcome.ActOutcome.outOfRange e is) = is ∙ sym (ifB-no (inRange net s) _ (acted 17 0 s) (out-of net s e))
   act-is bytes r (Outcome.ActOutcome.unknown e u is) =
-      let (v, valid) = in-range net s e in
-      is ∙ sym (ifB-yes (inRange net s) _ (acted 17 0 s) e ∙ turn-unknown net v s valid z bytes 0 u)
+      let (v, valid) = in-range net s (in-of net s e) in
+      is ∙ sym (ifB-yes (inRange net s) _ (acted 17 0 s) (in-of net s e) ∙ turn-unknown net v s valid z bytes 0 u)
   act-is bytes r (Outcome.ActOutcome.cut e c is) =
-      let (v, valid) = in-range net s e in
-      is ∙ sym (ifB-yes (inRange net s) _ (acted 17 0 s) e ∙ turn-cut net v s valid z bytes 0 c)
+      let (v, valid) = in-range net s (in-of net s e) in
+      is ∙ sym (ifB-yes (inRange net s) _ (acted 17 0 s) (in-of net s e) ∙ turn-cut net v s valid z bytes 0 c)
   act-is bytes r (Outcome.ActOutcome.judged e a width h j place) =
-      let (v, valid) = in-range net s e in
+      let (v, valid) = in-range net s (in-of net s e) in
       (λ i. acted (r .answer) (place i) (r .state))
-      ∙ sym (ifB-yes (inRange net s) _ (acted 17 0 s) e ∙ turn-named net v s valid z bytes 0 a width (r .answer) (r .state) h j)
+      ∙ sym (ifB-yes (inRange net s) _ (acted 17 0 s) (in-of net s e) ∙ turn-named net v s valid z bytes 0 a width (r .answer) (r .state) h j)
 
   pub list-is : (bytes : List ℕ) (r : Ran) → ListOutcome net s bytes r → r ≡ listOf net s bytes
   unfolding listOf
-  list-is bytes r (Outcome.ListOutcome.outOfRange e is) = is ∙ sym (ifB-no (inRange net s) _ (ran 17 0 0 s) e)
+  list-is bytes r (Outcome.ListOutcome.outOfRange e is) = is ∙ sym (ifB-no (inRange net s) _ (ran 17 0 0 s) (out-of net s e))
   list-is bytes r (Outcome.ListOutcome.listed e l) =
-      let (v, valid) = in-range net s e in
-      list-from-is net v bytes (l .actions) (suc (length bytes)) s valid z 0 0 r (omega arith) (l .taken) (omega (arith, l .counted)) (l .follows) (l .stopped) (l .valid) (l .sized)
-      ∙ sym (ifB-yes (inRange net s) _ (ran 17 0 0 s) e)
+      let (v, valid) = in-range net s (in-of net s e) in
+      list-from-is net v bytes (l .actions) (suc (length bytes)) s valid z 0 0 r (omega arith) (l .taken) (omega (arith, l .counted)) (l .follows) (l .stopped) (fits-valid net v (r .state) (l .valid)) (l .sized)
+      ∙ sym (ifB-yes (inRange net s) _ (ran 17 0 0 s) (in-of net s e))

@@ -8,7 +8,7 @@ use mathlib.Core.Bool.{Bool, true, false}
 use mathlib.Core.List.{List, [], _∷_}
 use lib.ListN.{length}
 use Rattle.laws.specs.Choice.{ifB, ifEq}
-use Rattle.laws.proofs.Choice.{ifB-yes, ifB-no, ifEq-yes, ifEq-no, lt-elim, eq-elim, both-left, both-right}
+use Rattle.laws.proofs.Choice.{ifB-yes, ifB-no, ifEq-yes, ifEq-no, lt-elim, eq-elim, both-left, both-right, both-yes, true-not-false}
 use Rattle.network.specs.declared.Network.{Network}
 use Rattle.network.specs.Valid.{validNetwork}
 use Rattle.synchronizer.specs.declared.State.{State}
@@ -20,13 +20,18 @@ use Rattle.synchronizer.specs.Answer.{answerOf}
 use Rattle.synchronizer.specs.After.{afterOf}
 use Rattle.synchronizer.specs.Valid.{validState, Sized}
 use Rattle.synchronizer.specs.Entry.{done, acted, ran, inRange, doneIn, doneOf, actedAs, recordIn, actIn, actOf, listFrom, listOf}
+use Rattle.network.proofs.Valid.{valid-clauses, clauses-valid}
 use Rattle.synchronizer.proofs.Keeps.{taken-keeps}
 use Rattle.automaton.specs.Actions.{Act, bodyOf}
 use Rattle.automaton.specs.Answer.{answer}
 use Rattle.automaton.specs.Run.{after, step, run}
-use Rattle.guarantees.specs.Reading.{netOf, kindOf, read}
+use Rattle.guarantees.specs.Kinds.{kindOf}
+use Rattle.guarantees.specs.Reading.{netOf, read}
 use Rattle.guarantees.specs.Outcome as Outcome
-use Rattle.guarantees.specs.Outcome.{Judged, MethodOutcome, Names, UnknownAt, CutAt, ActOutcome, Taken, Stopped, Listed, ListOutcome}
+use Rattle.guarantees.specs.Records.{Names, UnknownAt, CutAt}
+use Rattle.guarantees.specs.Outcome.{Within, Judged, MethodOutcome, ActOutcome, Taken, Stopped, Listed, ListOutcome}
+use Rattle.guarantees.proofs.Bytes.{names-inside}
+use Rattle.guarantees.proofs.Fits.{valid-fits, fits-valid}
 use Rattle.guarantees.proofs.Records as Records
 use Rattle.guarantees.proofs.Records.{Found, found}
 use Rattle.guarantees.proofs.After.{answer-is, after-is}
@@ -35,6 +40,29 @@ use Rattle.guarantees.proofs.After.{answer-is, after-is}
 pub in-range : (net : Network) (s : State) → inRange net s ≡ true → (validNetwork net ≡ true) × (validState net s ≡ true)
 unfolding inRange
 in-range net s e = (both-left _ _ e, both-right (validNetwork net) _ e)
+
+-- the clauses of 17 say the same
+module _ (net : Network) (s : State) where
+  pub within-of : inRange net s ≡ true → Within net s
+  within-of e =
+      let (v, valid) = in-range net s e in
+      record { network = valid-clauses net v; state = valid-fits net v s valid }
+
+  pub in-of : Within net s → inRange net s ≡ true
+  unfolding inRange
+  in-of w =
+      let v = clauses-valid net (w .network) in
+      both-yes (validNetwork net) (validState net s) v (fits-valid net v s (w .state))
+
+  pub not-within : inRange net s ≡ false → Within net s → ⊥
+  not-within e w = true-not-false (inRange net s) (in-of w) e
+
+  pub out-of : (Within net s → ⊥) → inRange net s ≡ false
+  out-of none = by (inRange net s) refl
+    where
+      by : (t : Bool) → inRange net s ≡ t → inRange net s ≡ false
+      by true e = absurd (none (within-of e))
+      by false e = e
 
 -- an action's answer and state, with the bytes that it read
 pub acted-as : (d : Done) (width : ℕ) → actedAs d width ≡ acted (d .answer) (ifEq (d .answer) 0 width 0) (d .state)
@@ -57,13 +85,13 @@ module _ (net : Network) (v : validNetwork net ≡ true) (s : State) (valid : va
       record {
         number = sym zero;
         follows = after-is net v s valid z a zero ∙ sym (ifEq-yes (answer (netOf net) (read net s) a) 0 _ _ zero);
-        valid = kept .0;
+        valid = valid-fits net v _ (kept .0);
         sized = kept .1;
       })
       (λ o. record {
         number = answer-is net v s valid a;
         follows = sym (ifEq-no (answer (netOf net) (read net s) a) 0 _ _ (λ e. o (answer-is net v s valid a ∙ e)));
-        valid = valid;
+        valid = valid-fits net v s valid;
         sized = z;
       })
 
@@ -134,7 +162,7 @@ module _ (net : Network) (v : validNetwork net ≡ true) (bytes : List ℕ) wher
         eq-elim (From net s bytes at before) (r .answer) 0 rest _ (λ o. absurd (omega arith)) (λ _. stops s valid z at before (r .answer) (Outcome.cut inside c n))
     on (judged a width names j place) later =
         eq-elim (From net s bytes at before) (r .answer) 0 rest _
-        (λ e. goes s (r .state) a at before width rest names (sym (j .number) ∙ e) (subst (λ n. Judged net s a n (r .state)) e j) (later width (place ∙ ifEq-yes (r .answer) 0 width 0 e) (omega (arith, names .whole)) (names .within) (j .valid) (j .sized)))
+        (λ e. goes s (r .state) a at before width rest names (sym (j .number) ∙ e) (subst (λ n. Judged net s a n (r .state)) e j) (later width (place ∙ ifEq-yes (r .answer) 0 width 0 e) (omega (arith, names-inside names .0)) (names-inside names .1) (fits-valid net v (r .state) (j .valid)) (j .sized)))
         (λ o. stops s valid z at before (r .answer) (Outcome.refused a width names (j .number) (omega arith)))
 
   from : (turns : ℕ) (s : State) → validState net s ≡ true → Sized s → (at before : ℕ) → at ≤ length bytes → length bytes < turns + at → From net s bytes at before (listFrom turns (wiresOf net) s bytes at before)
@@ -157,42 +185,42 @@ module _ (net : Network) (s : State) (z : Sized s) where
       by : (t : Bool) → inRange net s ≡ t → MethodOutcome net s a (ifB (inRange net s) (doneIn (wiresOf net) s (kindOf a) (bodyOf a .p) (bodyOf a .q)) (done 17 s))
       by true e =
           let (v, valid) = in-range net s e in
-          rw (ifB-yes (inRange net s) (doneIn (wiresOf net) s (kindOf a) (bodyOf a .p) (bodyOf a .q)) (done 17 s) e) (Outcome.MethodOutcome.judged e (judged-in net v s valid z a))
-      by false e = Outcome.MethodOutcome.outOfRange e (ifB-no (inRange net s) _ (done 17 s) e)
+          rw (ifB-yes (inRange net s) (doneIn (wiresOf net) s (kindOf a) (bodyOf a .p) (bodyOf a .q)) (done 17 s) e) (Outcome.MethodOutcome.judged (within-of net s e) (judged-in net v s valid z a))
+      by false e = Outcome.MethodOutcome.outOfRange (not-within net s e) (ifB-no (inRange net s) _ (done 17 s) e)
 
   pub act-outcome : (bytes : List ℕ) → ActOutcome net s bytes (actOf net s bytes)
   unfolding actOf
   act-outcome bytes = by (inRange net s) refl
     where
       at-first : (r : Acted) (e : inRange net s ≡ true) → Turn net (in-range net s e .0) s (in-range net s e .1) z bytes 0 r → ActOutcome net s bytes r
-      at-first r e (unknown u is) = Outcome.ActOutcome.unknown e u is
-      at-first r e (cut c is) = Outcome.ActOutcome.cut e c is
-      at-first r e (judged a width h j place) = Outcome.ActOutcome.judged e a width h j place
+      at-first r e (unknown u is) = Outcome.ActOutcome.unknown (within-of net s e) u is
+      at-first r e (cut c is) = Outcome.ActOutcome.cut (within-of net s e) c is
+      at-first r e (judged a width h j place) = Outcome.ActOutcome.judged (within-of net s e) a width h j place
 
       by : (t : Bool) → inRange net s ≡ t → ActOutcome net s bytes (ifB (inRange net s) (actIn (wiresOf net) s bytes 0) (acted 17 0 s))
       by true e =
           rw (ifB-yes (inRange net s) (actIn (wiresOf net) s bytes 0) (acted 17 0 s) e)
           (at-first (actIn (wiresOf net) s bytes 0) e (turn net (in-range net s e .0) s (in-range net s e .1) z bytes 0))
-      by false e = Outcome.ActOutcome.outOfRange e (ifB-no (inRange net s) _ (acted 17 0 s) e)
+      by false e = Outcome.ActOutcome.outOfRange (not-within net s e) (ifB-no (inRange net s) _ (acted 17 0 s) e)
 
   pub list-outcome : (bytes : List ℕ) → ListOutcome net s bytes (listOf net s bytes)
   unfolding listOf
   list-outcome bytes = by (inRange net s) refl
     where
-      whole : (r : Ran) → From net s bytes 0 0 r → Listed net s bytes r
-      whole r f =
+      whole : validNetwork net ≡ true → (r : Ran) → From net s bytes 0 0 r → Listed net s bytes r
+      whole v r f =
           record {
             actions = f .actions;
             taken = f .taken;
             counted = omega (arith, f .counted);
             follows = f .follows;
             stopped = f .stopped;
-            valid = f .valid;
+            valid = valid-fits net v (r .state) (f .valid);
             sized = f .sized;
           }
 
       by : (t : Bool) → inRange net s ≡ t → ListOutcome net s bytes (ifB (inRange net s) (listFrom (suc (length bytes)) (wiresOf net) s bytes 0 0) (ran 17 0 0 s))
       by true e =
           rw (ifB-yes (inRange net s) (listFrom (suc (length bytes)) (wiresOf net) s bytes 0 0) (ran 17 0 0 s) e)
-          (Outcome.ListOutcome.listed e (whole _ (from net (in-range net s e .0) bytes (suc (length bytes)) s (in-range net s e .1) z 0 0 (omega arith) (omega arith))))
-      by false e = Outcome.ListOutcome.outOfRange e (ifB-no (inRange net s) _ (ran 17 0 0 s) e)
+          (Outcome.ListOutcome.listed (within-of net s e) (whole (in-range net s e .0) _ (from net (in-range net s e .0) bytes (suc (length bytes)) s (in-range net s e .1) z 0 0 (omega arith) (omega arith))))
+      by false e = Outcome.ListOutcome.outOfRange (not-within net s e) (ifB-no (inRange net s) _ (ran 17 0 0 s) e)

@@ -10,7 +10,8 @@ use lib.ListN.{length}
 use borrow.Author.Tests.{lt-ltb}
 use Rattle.laws.specs.Choice.{ifB, ifEq}
 use Rattle.network.specs.declared.Network.{Network}
-use Rattle.network.specs.Valid.{validNetwork}
+use Rattle.network.specs.Valid.{validNetwork, Clauses}
+use Rattle.network.proofs.Valid.{clauses-valid}
 use Rattle.actions.specs.declared.Kind.{Kind}
 use Rattle.actions.specs.declared.Place.{Place}
 use Rattle.actions.specs.Table.{placeOf}
@@ -31,10 +32,12 @@ use Rattle.automaton.specs.Answer.{answer}
 use Rattle.automaton.specs.Run.{step, run}
 use Rattle.automaton.specs.Accepted.{Accepted}
 use Rattle.automaton.proofs.Demand.{no-full-queue}
-use Rattle.guarantees.specs.Reading.{netOf, kindOf, namesLink, seated, seatOf, read}
+use Rattle.guarantees.specs.Kinds.{kindOf}
+use Rattle.guarantees.specs.Reading.{netOf, namesLink, seated, seatOf, read}
 use Rattle.guarantees.specs.Outcome as Outcome
 use Rattle.guarantees.specs.Outcome.{Judged, MethodOutcome, ActOutcome, Stopped, ListOutcome}
 use Rattle.guarantees.specs.Steps.{Step, method, action, list, secondOf, stateAfter, answerTo, stateAfterAll, started, finished}
+use Rattle.guarantees.proofs.Fits.{fits-valid}
 use Rattle.guarantees.proofs.Tables.{actionOf, placeAs, named}
 use Rattle.guarantees.proofs.Needs.{count-read}
 use Rattle.guarantees.proofs.Outcomes.{method-outcome, act-outcome, list-outcome}
@@ -80,25 +83,25 @@ module _ (net : Network) where
         sized = sized;
       }
 
-  one-more : (s s′ : State) (a : Act) (n : ℕ) → Reached s → Judged net s a n s′ → Reached s′
+  one-more : (s s′ : State) (a : Act) (n : ℕ) → Clauses net → Reached s → Judged net s a n s′ → Reached s′
   unfolding run
-  one-more s s′ a n h j = more s s′ h (a ∷ []) (j .follows) (j .valid) (j .sized)
+  one-more s s′ a n c h j = more s s′ h (a ∷ []) (j .follows) (fits-valid net (clauses-valid net c) s′ (j .valid)) (j .sized)
 
   -- ---- by one step, and by all
 
-  by-method : (s : State) (a : Act) (r : Done) → Reached s → MethodOutcome net s a r → Reached (r .state)
+  pub by-method : (s : State) (a : Act) (r : Done) → Reached s → MethodOutcome net s a r → Reached (r .state)
   by-method s a r h (Outcome.MethodOutcome.outOfRange _ is) = subst (λ (d : Done). Reached (d .state)) (sym is) h
-  by-method s a r h (Outcome.MethodOutcome.judged _ j) = one-more s (r .state) a (r .answer) h j
+  by-method s a r h (Outcome.MethodOutcome.judged w j) = one-more s (r .state) a (r .answer) (w .network) h j
 
-  by-act : (s : State) (bytes : List ℕ) (r : Acted) → Reached s → ActOutcome net s bytes r → Reached (r .state)
+  pub by-act : (s : State) (bytes : List ℕ) (r : Acted) → Reached s → ActOutcome net s bytes r → Reached (r .state)
   by-act s bytes r h (Outcome.ActOutcome.outOfRange _ is) = subst (λ (d : Acted). Reached (d .state)) (sym is) h
   by-act s bytes r h (Outcome.ActOutcome.unknown _ _ is) = subst (λ (d : Acted). Reached (d .state)) (sym is) h
   by-act s bytes r h (Outcome.ActOutcome.cut _ _ is) = subst (λ (d : Acted). Reached (d .state)) (sym is) h
-  by-act s bytes r h (Outcome.ActOutcome.judged _ a width _ j _) = one-more s (r .state) a (r .answer) h j
+  by-act s bytes r h (Outcome.ActOutcome.judged w a width _ j _) = one-more s (r .state) a (r .answer) (w .network) h j
 
-  by-list : (s : State) (bytes : List ℕ) (r : Ran) → Reached s → ListOutcome net s bytes r → Reached (r .state)
+  pub by-list : (s : State) (bytes : List ℕ) (r : Ran) → Reached s → ListOutcome net s bytes r → Reached (r .state)
   by-list s bytes r h (Outcome.ListOutcome.outOfRange _ is) = subst (λ (d : Ran). Reached (d .state)) (sym is) h
-  by-list s bytes r h (Outcome.ListOutcome.listed _ l) = more s (r .state) h (l .actions) (l .follows) (l .valid) (l .sized)
+  by-list s bytes r h (Outcome.ListOutcome.listed w l) = more s (r .state) h (l .actions) (l .follows) (fits-valid net (clauses-valid net (w .network)) (r .state) (l .valid)) (l .sized)
 
   pub step-reaches : (s : State) → Reached s → (x : Step) → Reached (stateAfter net s x)
   unfolding stateAfter
@@ -132,7 +135,7 @@ module _ (net : Network) where
   -- ---- 18 is no answer
 
   module _ (acc : Accepted (netOf net)) where
-    no-action : (s : State) → Reached s → (a : Act) (n : ℕ) → n ≡ answer (netOf net) (read net s) a → n ≡ 18 → ⊥
+    pub no-action : (s : State) → Reached s → (a : Act) (n : ℕ) → n ≡ answer (netOf net) (read net s) a → n ≡ 18 → ⊥
     no-action s h a n e is =
         no-full-queue (netOf net) acc (h .actions) a (ap (λ g. answer (netOf net) g a) (sym (h .is)) ∙ sym e ∙ is)
 

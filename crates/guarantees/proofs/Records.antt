@@ -21,9 +21,11 @@ use Rattle.actions.proofs.Numbers.{seated, number-from-16, number-at}
 use Rattle.actions.proofs.Records.{read-holds, holds-read}
 use Rattle.actions.proofs.Cells.{same-index}
 use Rattle.automaton.specs.Actions.{Act, bodyOf}
-use Rattle.guarantees.specs.Reading.{kindOf, namesLink}
-use Rattle.guarantees.specs.Outcome.{Names, UnknownAt, CutAt, noByte, tooFew}
+use Rattle.guarantees.specs.Kinds.{kindOf}
+use Rattle.guarantees.specs.Reading.{namesLink}
+use Rattle.guarantees.specs.Records.{Names, UnknownAt, CutAt, noByte, tooFew}
 use Rattle.guarantees.proofs.Tables.{actionOf, placeAs, named, rowOf}
+use Rattle.guarantees.proofs.Bytes.{kind-byte, byte-of, record-length, length-of-kind, names-holds, holds-names}
 
 -- a body that names no link has one byte
 one-byte : (k : Kind) → namesLink (placeAs (placeOf k)) ≡ false → lengthOf k ≡ 1
@@ -48,7 +50,7 @@ module _ (bytes : List ℕ) (at : ℕ) where
   unfolding ifB
   from-record k p q width e =
       action (actionOf k p q) width
-      (subst (λ (z : Kind × ℕ × ℕ). Holds bytes at (z .0) (z .1) (z .2) width) (λ i. (kind i, first i, last i)) held)
+      (holds-names bytes at (actionOf k p q) width (subst (λ (z : Kind × ℕ × ℕ). Holds bytes at (z .0) (z .1) (z .2) width) (λ i. (kind i, first i, last i)) held))
       (e ∙ (λ i. Read.Act (kind i) (first i) (last i) width))
     where
       held : Holds bytes at k p q width
@@ -80,7 +82,7 @@ module _ (bytes : List ℕ) (at : ℕ) where
       by : Dec (at + lengthOf k < length bytes) → Found
       by (yes h) =
           from-record k (getD bytes (at + 1) 0) (getD bytes (at + lengthOf k) 0) (lengthOf k + 1) (sym is ∙ ifLt-yes (at + lengthOf k) (length bytes) _ Read.Short h)
-      by (no h) = cut (tooFew k e (omega arith)) (sym is ∙ ifLt-no (at + lengthOf k) (length bytes) _ Read.Short (omega arith))
+      by (no h) = cut (tooFew (actionOf k 0 0) (e ∙ sym (byte-of k 0 0)) (omega (arith, length-of-kind k 0 0))) (sym is ∙ ifLt-no (at + lengthOf k) (length bytes) _ Read.Short (omega arith))
 
   pub found : Found
   unfolding readAt indexOf b
@@ -97,12 +99,12 @@ module _ (bytes : List ℕ) (at : ℕ) where
           of-kind (kindAt (b - 16)) (omega (arith, number-at (b - 16) l))
           (sym (ifLt-yes at (length bytes) later Read.Short h ∙ ifLt-no b 16 Read.Unknown tested g ∙ ifLt-yes (b - 16) (length kinds) _ Read.Unknown l))
       high h g (no l) =
-          unknown (record { within = h; no-kind = λ k e. omega (arith, seated k .0, e) })
+          unknown (record { within = h; no-kind = λ a e. omega (arith, seated (kindOf a) .0, e, kind-byte a) })
           (ifLt-yes at (length bytes) later Read.Short h ∙ ifLt-no b 16 Read.Unknown tested g ∙ ifLt-no (b - 16) (length kinds) _ Read.Unknown (omega arith))
 
       in-bytes : at < length bytes → Dec (b < 16) → Found
       in-bytes h (yes l) =
-          unknown (record { within = h; no-kind = λ k e. omega (arith, number-from-16 k, e) })
+          unknown (record { within = h; no-kind = λ a e. omega (arith, number-from-16 (kindOf a), e, kind-byte a) })
           (ifLt-yes at (length bytes) later Read.Short h ∙ ifLt-yes b 16 Read.Unknown tested l)
       in-bytes h (no l) = high h (omega arith) (decLt (b - 16) (length kinds))
 
@@ -123,7 +125,7 @@ module _ (bytes : List ℕ) (at : ℕ) where
       by (unknown _ e) = e
       by (cut (noByte h) _) = absurd (omega (arith, u .within))
       by (cut (tooFew k e _) _) = absurd (u .no-kind k e)
-      by (action a width h _) = absurd (u .no-kind (kindOf a) (h .kind))
+      by (action a width h _) = absurd (u .no-kind a (names-holds bytes at a width h .kind ∙ sym (kind-byte a)))
 
   pub cut-read : CutAt bytes at → readAt bytes at ≡ Read.Short
   unfolding readAt
@@ -134,11 +136,12 @@ module _ (bytes : List ℕ) (at : ℕ) where
       by (unknown u _) = absurd (u .no-kind k e)
       by (cut _ r) = r
       by (action a width h _) =
-          let same : kindOf a ≡ k = same-number (kindOf a) k (sym (h .kind) ∙ e) in
-          absurd (omega (arith, h .within, h .whole, ap lengthOf same))
+          let held = names-holds bytes at a width h in
+          let same : kindOf a ≡ kindOf k = same-number (kindOf a) (kindOf k) (sym (held .kind) ∙ e ∙ kind-byte k) in
+          absurd (omega (arith, held .within, held .whole, ap lengthOf same, record-length k))
 
   pub names-read : (a : Act) (width : ℕ) → Names bytes at a width → readAt bytes at ≡ Read.Act (kindOf a) (bodyOf a .p) (bodyOf a .q) width
-  names-read a width h = holds-read bytes at (kindOf a) (bodyOf a .p) (bodyOf a .q) width h
+  names-read a width h = holds-read bytes at (kindOf a) (bodyOf a .p) (bodyOf a .q) width (names-holds bytes at a width h)
 
   pub names-once : (a b : Act) (w u : ℕ) → Names bytes at a w → Names bytes at b u → (a ≡ b) × (w ≡ u)
   names-once a b w u h g =

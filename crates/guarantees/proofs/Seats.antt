@@ -20,7 +20,8 @@ use Rattle.actions.proofs.Cells.{same-cell}
 use Rattle.synchronizer.specs.Wires.{wiresOf, lanesOf, laneIn}
 use Rattle.synchronizer.specs.Answer.{ownIn}
 use Rattle.automaton.specs.Actions.{Act, bodyOf}
-use Rattle.guarantees.specs.Reading.{joins, directionOf, kindOf, namesLink, seated, seatOf}
+use Rattle.guarantees.specs.Kinds.{kindOf}
+use Rattle.guarantees.specs.Reading.{joins, directionOf, namesLink, seated, seatOf}
 use Rattle.guarantees.proofs.Directions.{direction-in-row, one-direction, lane-is}
 use Rattle.guarantees.proofs.Tables.{actionOf, placeAs, named, rowOf, body-is}
 
@@ -31,7 +32,7 @@ counterOf net a = count (kindOf a) (seatOf net a)
 pub place-is : (a : Act) → bodyOf a .place ≡ placeAs (placeOf (kindOf a))
 place-is a = ap (λ b. b .place) (body-is a)
 
-second-is : (a : Act) → bodyOf a .q ≡ ifB (namesLink (bodyOf a .place)) (bodyOf a .q) (bodyOf a .p)
+pub second-is : (a : Act) → bodyOf a .q ≡ ifB (namesLink (bodyOf a .place)) (bodyOf a .q) (bodyOf a .p)
 second-is a = ap (λ b. b .q) (body-is a) ∙ ap (λ w. ifB (namesLink w) (bodyOf a .q) (bodyOf a .p)) (sym (place-is a))
 
 -- an action's count, by the kind and the numbers that it comes from

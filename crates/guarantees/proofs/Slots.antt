@@ -16,7 +16,8 @@ use Rattle.network.specs.declared.Network.{Network}
 use Rattle.network.specs.Valid.{validNetwork}
 use Rattle.actions.specs.Table.{doesOf}
 use Rattle.actions.specs.Kinds.{countIn}
-use Rattle.queue.specs.Queue.{queues}
+use Rattle.queue.specs.declared.Head.{Head}
+use Rattle.queue.specs.Queue.{headOf, queues, heardIn}
 use Rattle.synchronizer.specs.declared.State.{State}
 use Rattle.synchronizer.specs.Wires.{wiresOf}
 use Rattle.synchronizer.specs.Answer.{ownIn}
@@ -27,11 +28,12 @@ use Rattle.automaton.specs.Global.{Global, parity}
 use Rattle.automaton.specs.Answer.{packetAtFront}
 use Rattle.automaton.specs.Run.{carried, after}
 use Rattle.automaton.proofs.Effects.{same-eq, same-self, slot-written, slot-spared, slot-untouched}
-use Rattle.guarantees.specs.Reading.{joins, directionOf, netOf, kindOf, seated, countOf, read}
+use Rattle.guarantees.specs.Kinds.{kindOf}
+use Rattle.guarantees.specs.Reading.{joins, directionOf, netOf, seated, countOf, read}
 use Rattle.guarantees.proofs.Choices.{b-same, lt-same}
 use Rattle.guarantees.proofs.Links.{nodes-below}
 use Rattle.guarantees.proofs.Directions.{direction-below, direction-in-row, one-direction, lane-is}
-use Rattle.guarantees.proofs.Waiting.{waitingOf, packet-carries}
+use Rattle.guarantees.proofs.Waiting.{waitingOf, packet-carries, packet-head}
 use Rattle.guarantees.proofs.Answers.{sorted, queue-read, own-read}
 
 module _ (net : Network) (v : validNetwork net ≡ true) (s : State) (c : StateClauses net s) (z : Sized s) (p q : ℕ) (j : joins net p q ≡ true) (e : seated net (packetDelivered p q) ≡ true) (first : packetAtFront (read net s .queue p q) ≡ true) where
@@ -39,6 +41,10 @@ module _ (net : Network) (v : validNetwork net ≡ true) (s : State) (c : StateC
   pub carries : (0 < getD (s .lens) (directionOf net p q) 0) × ((old : ℕ) → carried (waitingOf (queues (s .lens) (s .sorts) (s .loads)) (directionOf net p q)) old ≡ getD (s .loads) (directionOf net p q * 2) 0)
   carries =
       packet-carries (queues (s .lens) (s .sorts) (s .loads)) (directionOf net p q) (sorted net v s c (directionOf net p q) (direction-below net v p q j)) (sym (ap packetAtFront (queue-read net v s c p q j)) ∙ first)
+
+  head : headOf (s .lens) (s .sorts) (s .loads) (directionOf net p q) ≡ Head.Packet (getD (s .loads) (directionOf net p q * 2) 0)
+  head =
+      packet-head (queues (s .lens) (s .sorts) (s .loads)) (directionOf net p q) (sorted net v s c (directionOf net p q) (direction-below net v p q j)) (sym (ap packetAtFront (queue-read net v s c p q j)) ∙ first)
 
   load : ℕ
   load = getD (s .loads) (directionOf net p q * 2) 0
@@ -51,8 +57,10 @@ module _ (net : Network) (v : validNetwork net ≡ true) (s : State) (c : StateC
   x = directionOf net p q * 2 + i % 2
 
   slots-are : afterOf net s (kindOf (packetDelivered p q)) p q .slots ≡ set (s .slots) x load
-  unfolding afterIn effectIn counted wiresOf kindOf doesOf bodyOf i x load
-  slots-are = λ k. set (s .slots) (lane-is net v p q j k * 2 + times k % 2) (getD (s .loads) (lane-is net v p q j k * 2) 0)
+  unfolding afterIn effectIn counted wiresOf kindOf doesOf bodyOf heardIn i x load
+  slots-are =
+      (λ k. heardIn (s .slots) (headOf (s .lens) (s .sorts) (s .loads) (lane-is net v p q j k)) (lane-is net v p q j k) (times k))
+      ∙ ap (λ h. heardIn (s .slots) h (directionOf net p q) i) head
     where
       times : countIn (s .counts) (ownIn (wiresOf net) (kindOf (packetDelivered p q)) p q) + 1 ≡ i
       times = add-one _ ∙ ap suc (own-read net v s c (packetDelivered p q) e (nodes-below net v p q j .0))

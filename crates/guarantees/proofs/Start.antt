@@ -24,7 +24,7 @@ use Rattle.laws.proofs.Entries.{repeated-at}
 use Rattle.automaton.specs.Network.{neighbours}
 use Rattle.automaton.specs.Global.{begin}
 use Rattle.automaton.specs.Lockstep.{lockstep}
-use Rattle.guarantees.specs.Reading.{joins, directionOf, netOf, seated, countOf, waitingIn, read}
+use Rattle.guarantees.specs.Reading.{cellAt, seatOf, joins, directionOf, netOf, seated, countOf, waitingIn, read}
 use Rattle.guarantees.proofs.Links.{nodes-below, neighbour-is, neighbours-are}
 use Rattle.guarantees.proofs.Seats.{counterOf}
 use Rattle.guarantees.proofs.After.{same-global}
@@ -37,7 +37,7 @@ module _ (net : Network) (v : validNetwork net ≡ true) where
   fresh-is : read net (freshWith (net .starts)) ≡ begin (netOf net)
   unfolding read begin netOf freshWith countOf waitingIn listBelow
   fresh-is =
-      same-global (read net (freshWith (net .starts))) (begin (netOf net)) (λ b. none _ 0 (zeros (length kinds * 256) (cellOf (counterOf net b))) (seated net b))
+      same-global (read net (freshWith (net .starts))) (begin (netOf net)) (λ b. none _ 0 (zeros 5120 (cellAt b (seatOf net b))) (seated net b))
       (λ p q. none _ [] (ap (listBelow _) (zeros 256 (directionOf net p q))) (joins net p q))
       (λ p q h. none _ 0 (lt-elim (λ y. y ≡ 0) h 2 _ 0 (λ _. zeros 512 (directionOf net p q * 2 + h)) (λ _. refl)) (joins net p q))
       (λ p. refl)

@@ -23,7 +23,8 @@ use Rattle.automaton.specs.Answer.{sends}
 use Rattle.automaton.proofs.Effects.{same-self}
 use Rattle.laws.specs.Choice.{ifB}
 use Rattle.laws.proofs.Choice.{ifB-yes}
-use Rattle.guarantees.specs.Reading.{kindOf, namesLink}
+use Rattle.guarantees.specs.Kinds.{kindOf}
+use Rattle.guarantees.specs.Reading.{namesLink}
 
 -- the action of a kind and the numbers of its body
 unfoldable pub actionOf : Kind → ℕ → ℕ → Act

@@ -36,11 +36,11 @@ use Rattle.synchronizer.specs.Start.{freshWith, startOf}
 use Rattle.synchronizer.specs.Entry.{inRange, doneIn, doneOf, actedAs, recordIn, actIn, actOf, listFrom, listOf}
 use Rattle.laws.proofs.Choice.{ifB-yes, both-yes}
 use Rattle.network.specs.declared.Network.{Network}
-use Rattle.queue.specs.Queue.{headOf, packetFirst, ackFirst, roomAnswer, pushed, movedUp, popped}
+use Rattle.queue.specs.Queue.{headOf, packetFirst, ackFirst, roomAnswer, pushed, movedUp, popped, heardIn}
 use Rattle.records.specs.declared.Planned.{Planned}
 use Rattle.synchronizer.specs.declared.Done.{Done}
 use Rattle.synchronizer.proofs.Keeps.{start-valid}
-use Rattle.guarantees.specs.Trials.{Trial, End, trial, end, ended, given, starred}
+use Rattle.guarantees.specs.Trials.{Trial, End, trial, end, ended, given, starred, P-whole-round, P-up-before-down, worked}
 use Rattle.guarantees.specs.Trials.{T-lockstep, P-lockstep-1, P-lockstep-2, P-lockstep-3, early-packet, ok-with-no-ack, second-output-of-1, second-output-of-2, packet-0-to-2, node-7, empty-plan, each-the-others-parent, two-roots-no-link}
 
 -- from the start state of a valid network the list is run with no further look at 17
@@ -65,7 +65,7 @@ Holds [] = Unit {0}
 Holds (t ∷ ts) = (given t ≡ t .ends) × Holds ts
 
 pub starred-hold : Holds starred
-unfolding given quick ended ifB ifLt ifEq both allBelow sumBelow countBelow foldBelow firstOf overBelow listBelow pickBelow total digit member inserted removed sizeOf lowestOf allIn sumIn membersOf valuesIn towards linkGives linkSet childSet withSets added linked adopted withinLimits nodeFits rises linkFits linkRises linkStands agrees validNetwork bodyLength recordAt records-readAt roundsRule nodeRule followsOf linkRule endRule zeroNetwork roundsAdded nodeAdded linkAdded turn listsFrom listsOf pairIs joins linkBetween hasLink climb rootOf rootFrom depthFrom depthOf LeadsIn untied firstUntied Tied firstLost rootsOf rootAt inside firstInside chosen preferredBetween notOne firstNotOne clusterCount clusterOf JoinsTwo PairHasOne follow across pass joinedMarks firstUnjoined checksOf planOf shareOf ruleOf meanOf nextBy roundBy roundsBy lockstepOf tableNumber tableOf numberOf indexOf kindAt cellOf placeOf ownOf knowsBy mayGoBy needOf everyOf doesOf namesOf bodyOf actAt actions-readAt joined lanesOf wiresOf isRoot aroundOf standsIn startsRound countAnswer childrenHave sendersHave everyHas headOf packetFirst ackFirst roomAnswer queueAnswer ownIn legalAnswer needAnswer answerIn pushed movedUp popped meanHeard effectIn counted afterIn freshWith startOf inRange doneIn doneOf actedAs recordIn actIn actOf listFrom listOf
+unfolding given quick ended ifB ifLt ifEq both allBelow sumBelow countBelow foldBelow firstOf overBelow listBelow pickBelow total digit member inserted removed sizeOf lowestOf allIn sumIn membersOf valuesIn towards linkGives linkSet childSet withSets added linked adopted withinLimits nodeFits rises linkFits linkRises linkStands agrees validNetwork bodyLength recordAt records-readAt roundsRule nodeRule followsOf linkRule endRule zeroNetwork roundsAdded nodeAdded linkAdded turn listsFrom listsOf pairIs joins linkBetween hasLink climb rootOf rootFrom depthFrom depthOf LeadsIn untied firstUntied Tied firstLost rootsOf rootAt inside firstInside chosen preferredBetween notOne firstNotOne clusterCount clusterOf JoinsTwo PairHasOne follow across pass joinedMarks firstUnjoined checksOf planOf shareOf ruleOf meanOf nextBy roundBy roundsBy lockstepOf tableNumber tableOf numberOf indexOf kindAt cellOf placeOf ownOf knowsBy mayGoBy needOf everyOf doesOf namesOf bodyOf actAt actions-readAt joined lanesOf wiresOf isRoot aroundOf standsIn startsRound countAnswer childrenHave sendersHave everyHas headOf packetFirst ackFirst roomAnswer queueAnswer ownIn legalAnswer needAnswer answerIn pushed movedUp popped heardIn meanHeard effectIn counted afterIn freshWith startOf inRange doneIn doneOf actedAs recordIn actIn actOf listFrom listOf
 starred-hold = (
   quick-is T-lockstep refl refl refl,
   (
@@ -106,3 +106,7 @@ starred-hold = (
     ),
   ),
 )
+
+pub worked-hold : Holds worked
+unfolding given quick ended ifB ifLt ifEq both allBelow sumBelow countBelow foldBelow firstOf overBelow listBelow pickBelow total digit member inserted removed sizeOf lowestOf allIn sumIn membersOf valuesIn towards linkGives linkSet childSet withSets added linked adopted withinLimits nodeFits rises linkFits linkRises linkStands agrees validNetwork bodyLength recordAt records-readAt roundsRule nodeRule followsOf linkRule endRule zeroNetwork roundsAdded nodeAdded linkAdded turn listsFrom listsOf pairIs joins linkBetween hasLink climb rootOf rootFrom depthFrom depthOf LeadsIn untied firstUntied Tied firstLost rootsOf rootAt inside firstInside chosen preferredBetween notOne firstNotOne clusterCount clusterOf JoinsTwo PairHasOne follow across pass joinedMarks firstUnjoined checksOf planOf shareOf ruleOf meanOf nextBy roundBy roundsBy lockstepOf tableNumber tableOf numberOf indexOf kindAt cellOf placeOf ownOf knowsBy mayGoBy needOf everyOf doesOf namesOf bodyOf actAt actions-readAt joined lanesOf wiresOf isRoot aroundOf standsIn startsRound countAnswer childrenHave sendersHave everyHas headOf packetFirst ackFirst roomAnswer queueAnswer ownIn legalAnswer needAnswer answerIn pushed movedUp popped heardIn meanHeard effectIn counted afterIn freshWith startOf inRange doneIn doneOf actedAs recordIn actIn actOf listFrom listOf
+worked-hold = (quick-is P-whole-round refl refl refl, (quick-is P-up-before-down refl refl refl, tt))

@@ -303,7 +303,7 @@ layout-layout-one κs a x y s t p q = (same (p .0) (q .0), same (p .1 .0) (q .1 
 -- ---- plan
 
 pub plan-read-plan-one : OneResult _ plan-read-plan-kinds.ps plan-read-plan-kinds.r plan-read-plan-reads.Post
-plan-read-plan-one κs a x y s t p q = same p q
+plan-read-plan-one κs a x y s t p q = same (p .0) (q .0)
 
 -- ---- lockstep
 
@@ -311,7 +311,7 @@ pub lockstep-mean-one : OneResult _ lockstep-mean-kinds.ps lockstep-mean-kinds.r
 lockstep-mean-one κs a x y s t p q = same p q
 
 pub lockstep-table-one : OneEnd _ lockstep-table-kinds.ps lockstep-table-kinds.r lockstep-table-reads.Post (λ κs s. now (s .1 .1 .0))
-lockstep-table-one κs a x y s t p q = (same (p .0) (q .0), same (p .1) (q .1))
+lockstep-table-one κs a x y s t p q = (same (p .0 .0) (q .0 .0), same (p .0 .1) (q .0 .1))
 
 -- ---- actions
 
@@ -392,70 +392,70 @@ pub synchronizer-start-one : OneResult _ synchronizer-start-kinds.ps synchronize
 synchronizer-start-one κs a x y s t p q = same p q
 
 pub synchronizer-output-one : OneResult _ synchronizer-output-kinds.ps synchronizer-output-kinds.r synchronizer-output-reads.Post
-synchronizer-output-one κs a x y s t p q = same p q
+synchronizer-output-one κs a x y s t p q = same (p .0) (q .0)
 
 pub synchronizer-packet-sent-one : OneResult _ synchronizer-packet-sent-kinds.ps synchronizer-packet-sent-kinds.r synchronizer-packet-sent-reads.Post
-synchronizer-packet-sent-one κs a x y s t p q = same p q
+synchronizer-packet-sent-one κs a x y s t p q = same (p .0) (q .0)
 
 pub synchronizer-packet-delivered-one : OneResult _ synchronizer-packet-delivered-kinds.ps synchronizer-packet-delivered-kinds.r synchronizer-packet-delivered-reads.Post
-synchronizer-packet-delivered-one κs a x y s t p q = same p q
+synchronizer-packet-delivered-one κs a x y s t p q = same (p .0) (q .0)
 
 pub synchronizer-ack-sent-one : OneResult _ synchronizer-ack-sent-kinds.ps synchronizer-ack-sent-kinds.r synchronizer-ack-sent-reads.Post
-synchronizer-ack-sent-one κs a x y s t p q = same p q
+synchronizer-ack-sent-one κs a x y s t p q = same (p .0) (q .0)
 
 pub synchronizer-ack-delivered-one : OneResult _ synchronizer-ack-delivered-kinds.ps synchronizer-ack-delivered-kinds.r synchronizer-ack-delivered-reads.Post
-synchronizer-ack-delivered-one κs a x y s t p q = same p q
+synchronizer-ack-delivered-one κs a x y s t p q = same (p .0) (q .0)
 
 pub synchronizer-ok-one : OneResult _ synchronizer-ok-kinds.ps synchronizer-ok-kinds.r synchronizer-ok-reads.Post
-synchronizer-ok-one κs a x y s t p q = same p q
+synchronizer-ok-one κs a x y s t p q = same (p .0) (q .0)
 
 pub synchronizer-subtree-ok-sent-one : OneResult _ synchronizer-subtree-ok-sent-kinds.ps synchronizer-subtree-ok-sent-kinds.r synchronizer-subtree-ok-sent-reads.Post
-synchronizer-subtree-ok-sent-one κs a x y s t p q = same p q
+synchronizer-subtree-ok-sent-one κs a x y s t p q = same (p .0) (q .0)
 
 pub synchronizer-subtree-ok-delivered-one : OneResult _ synchronizer-subtree-ok-delivered-kinds.ps synchronizer-subtree-ok-delivered-kinds.r synchronizer-subtree-ok-delivered-reads.Post
-synchronizer-subtree-ok-delivered-one κs a x y s t p q = same p q
+synchronizer-subtree-ok-delivered-one κs a x y s t p q = same (p .0) (q .0)
 
 pub synchronizer-cluster-ok-one : OneResult _ synchronizer-cluster-ok-kinds.ps synchronizer-cluster-ok-kinds.r synchronizer-cluster-ok-reads.Post
-synchronizer-cluster-ok-one κs a x y s t p q = same p q
+synchronizer-cluster-ok-one κs a x y s t p q = same (p .0) (q .0)
 
 pub synchronizer-down-sent-one : OneResult _ synchronizer-down-sent-kinds.ps synchronizer-down-sent-kinds.r synchronizer-down-sent-reads.Post
-synchronizer-down-sent-one κs a x y s t p q = same p q
+synchronizer-down-sent-one κs a x y s t p q = same (p .0) (q .0)
 
 pub synchronizer-down-delivered-one : OneResult _ synchronizer-down-delivered-kinds.ps synchronizer-down-delivered-kinds.r synchronizer-down-delivered-reads.Post
-synchronizer-down-delivered-one κs a x y s t p q = same p q
+synchronizer-down-delivered-one κs a x y s t p q = same (p .0) (q .0)
 
 pub synchronizer-preferred-sent-one : OneResult _ synchronizer-preferred-sent-kinds.ps synchronizer-preferred-sent-kinds.r synchronizer-preferred-sent-reads.Post
-synchronizer-preferred-sent-one κs a x y s t p q = same p q
+synchronizer-preferred-sent-one κs a x y s t p q = same (p .0) (q .0)
 
 pub synchronizer-preferred-delivered-one : OneResult _ synchronizer-preferred-delivered-kinds.ps synchronizer-preferred-delivered-kinds.r synchronizer-preferred-delivered-reads.Post
-synchronizer-preferred-delivered-one κs a x y s t p q = same p q
+synchronizer-preferred-delivered-one κs a x y s t p q = same (p .0) (q .0)
 
 pub synchronizer-up-sent-one : OneResult _ synchronizer-up-sent-kinds.ps synchronizer-up-sent-kinds.r synchronizer-up-sent-reads.Post
-synchronizer-up-sent-one κs a x y s t p q = same p q
+synchronizer-up-sent-one κs a x y s t p q = same (p .0) (q .0)
 
 pub synchronizer-up-delivered-one : OneResult _ synchronizer-up-delivered-kinds.ps synchronizer-up-delivered-kinds.r synchronizer-up-delivered-reads.Post
-synchronizer-up-delivered-one κs a x y s t p q = same p q
+synchronizer-up-delivered-one κs a x y s t p q = same (p .0) (q .0)
 
 pub synchronizer-cluster-go-one : OneResult _ synchronizer-cluster-go-kinds.ps synchronizer-cluster-go-kinds.r synchronizer-cluster-go-reads.Post
-synchronizer-cluster-go-one κs a x y s t p q = same p q
+synchronizer-cluster-go-one κs a x y s t p q = same (p .0) (q .0)
 
 pub synchronizer-subtree-go-sent-one : OneResult _ synchronizer-subtree-go-sent-kinds.ps synchronizer-subtree-go-sent-kinds.r synchronizer-subtree-go-sent-reads.Post
-synchronizer-subtree-go-sent-one κs a x y s t p q = same p q
+synchronizer-subtree-go-sent-one κs a x y s t p q = same (p .0) (q .0)
 
 pub synchronizer-subtree-go-delivered-one : OneResult _ synchronizer-subtree-go-delivered-kinds.ps synchronizer-subtree-go-delivered-kinds.r synchronizer-subtree-go-delivered-reads.Post
-synchronizer-subtree-go-delivered-one κs a x y s t p q = same p q
+synchronizer-subtree-go-delivered-one κs a x y s t p q = same (p .0) (q .0)
 
 pub synchronizer-go-one : OneResult _ synchronizer-go-kinds.ps synchronizer-go-kinds.r synchronizer-go-reads.Post
-synchronizer-go-one κs a x y s t p q = same p q
+synchronizer-go-one κs a x y s t p q = same (p .0) (q .0)
 
 pub synchronizer-input-one : OneResult _ synchronizer-input-kinds.ps synchronizer-input-kinds.r synchronizer-input-reads.Post
-synchronizer-input-one κs a x y s t p q = same p q
+synchronizer-input-one κs a x y s t p q = same (p .0) (q .0)
 
 pub synchronizer-act-one : OneResult _ synchronizer-act-kinds.ps synchronizer-act-kinds.r synchronizer-act-reads.Post
-synchronizer-act-one κs a x y s t p q = same p q
+synchronizer-act-one κs a x y s t p q = same (p .0) (q .0)
 
 pub synchronizer-run-one : OneResult _ synchronizer-run-kinds.ps synchronizer-run-kinds.r synchronizer-run-reads.Post
-synchronizer-run-one κs a x y s t p q = same p q
+synchronizer-run-one κs a x y s t p q = same (p .0) (q .0)
 
 -- ---- text, report, teravulk
 

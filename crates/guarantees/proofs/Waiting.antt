@@ -158,6 +158,13 @@ ack-waits u d f = go (getD (u .lens) d 0) refl
     go zero e = absurd (false≢true (sym (ap ackAtFront (ap (listBelow (at u d)) e)) ∙ f))
     go (suc n) e = omega arith
 
+-- a packet at the front is the head, with the value that it carries
+front-head : (l : List (Msg ℕ)) → packetAtFront l ≡ true → headFrom l ≡ Head.Packet (carried l 0)
+unfolding packetAtFront headFrom carried
+front-head [] f = absurd (false≢true f)
+front-head (packet v ∷ l) f = refl
+front-head (ack ∷ l) f = absurd (false≢true f)
+
 -- in a valid state what waits first is a packet or an ack
 module _ (u : Queues) (d : ℕ) (sorted : 0 < getD (u .lens) d 0 → (getD (u .sorts) (d * 2) 0 ≡ 1) ⊎ (getD (u .sorts) (d * 2) 0 ≡ 2)) where
   rest : ℕ → List (Msg ℕ)
@@ -202,3 +209,7 @@ module _ (u : Queues) (d : ℕ) (sorted : 0 < getD (u .lens) d 0 → (getD (u .s
       go : (n : ℕ) → getD (u .lens) d 0 ≡ n → (0 < getD (u .lens) d 0) × ((old : ℕ) → carried (waitingOf u d) old ≡ getD (u .loads) (d * 2) 0)
       go zero e = absurd (false≢true (sym (ap packetAtFront (ap (listBelow (at u d)) e)) ∙ f))
       go (suc n) e = (omega arith, which n e (sorted (omega arith)))
+
+  -- and so says the queue's head
+  pub packet-head : packetAtFront (waitingOf u d) ≡ true → headOf (u .lens) (u .sorts) (u .loads) d ≡ Head.Packet (getD (u .loads) (d * 2) 0)
+  packet-head f = head-is ∙ front-head (waitingOf u d) f ∙ ap Head.Packet (packet-carries f .1 0)

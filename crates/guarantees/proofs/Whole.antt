@@ -36,7 +36,7 @@ use Rattle.guarantees.proofs.Seats.{counterOf, seat-of-link, seated-lin
 use Rattle.guarantees.proofs.Needs.{count-read}
 
 -- how many counts of a kind are in use
-used-is : (nodes links : ℕ) (k : Kind) → usedBy nodes links k ≡ ifB (namesLink (placeAs (placeOf k))) (links * 2) nodes
+pub used-is : (nodes links : ℕ) (k : Kind) → usedBy nodes links k ≡ ifB (namesLink (placeAs (placeOf k))) (links * 2) nodes
 unfolding usedBy Records.bodyOf namesOf namesLink placeAs ifB ifEq
 used-is nodes links k = at (placeOf k)
   where

@@ -38,7 +38,7 @@ use Rattle.network.specs.declared.Network.{Network}
 use Rattle.actions.specs.declared.Kind.{Kind}
 use Rattle.actions.specs.declared.Kind.the-variants.{Output, PacketSent}
 use Rattle.actions.specs.Kinds.{count, kinds}
-use Rattle.queue.specs.Queue.{headOf, packetFirst, ackFirst, roomAnswer, pushed, movedUp, popped}
+use Rattle.queue.specs.Queue.{headOf, packetFirst, ackFirst, roomAnswer, pushed, movedUp, popped, heardIn}
 use Rattle.synchronizer.specs.declared.State.{State}
 use Rattle.synchronizer.specs.declared.Ran.{Ran}
 use Rattle.synchronizer.specs.After.{stateOf}
@@ -65,7 +65,7 @@ pub record PlanWitnesses : Type 0 where
   pub unjoined : planOf (pair 0 1 []) .number ≡ 10
 
 pub plan-witnesses : PlanWitnesses
-unfolding roots ifB ifLt ifEq both allBelow sumBelow countBelow foldBelow firstOf overBelow listBelow pickBelow total digit member inserted removed sizeOf lowestOf allIn sumIn membersOf valuesIn towards linkGives linkSet childSet withSets added linked adopted withinLimits nodeFits rises linkFits linkRises linkStands agrees validNetwork bodyLength recordAt records-readAt roundsRule nodeRule followsOf linkRule endRule zeroNetwork roundsAdded nodeAdded linkAdded turn listsFrom listsOf pairIs joins linkBetween hasLink climb rootOf rootFrom depthFrom depthOf LeadsIn untied firstUntied Tied firstLost rootsOf rootAt inside firstInside chosen preferredBetween notOne firstNotOne clusterCount clusterOf JoinsTwo PairHasOne follow across pass joinedMarks firstUnjoined checksOf planOf shareOf ruleOf meanOf nextBy roundBy roundsBy lockstepOf tableNumber tableOf numberOf indexOf kindAt cellOf placeOf ownOf knowsBy mayGoBy needOf everyOf doesOf namesOf bodyOf actAt actions-readAt joined lanesOf wiresOf isRoot aroundOf standsIn startsRound countAnswer childrenHave sendersHave everyHas headOf packetFirst ackFirst roomAnswer queueAnswer ownIn legalAnswer needAnswer answerIn pushed movedUp popped meanHeard effectIn counted afterIn freshWith startOf inRange doneIn doneOf actedAs recordIn actIn actOf listFrom listOf
+unfolding roots ifB ifLt ifEq both allBelow sumBelow countBelow foldBelow firstOf overBelow listBelow pickBelow total digit member inserted removed sizeOf lowestOf allIn sumIn membersOf valuesIn towards linkGives linkSet childSet withSets added linked adopted withinLimits nodeFits rises linkFits linkRises linkStands agrees validNetwork bodyLength recordAt records-readAt roundsRule nodeRule followsOf linkRule endRule zeroNetwork roundsAdded nodeAdded linkAdded turn listsFrom listsOf pairIs joins linkBetween hasLink climb rootOf rootFrom depthFrom depthOf LeadsIn untied firstUntied Tied firstLost rootsOf rootAt inside firstInside chosen preferredBetween notOne firstNotOne clusterCount clusterOf JoinsTwo PairHasOne follow across pass joinedMarks firstUnjoined checksOf planOf shareOf ruleOf meanOf nextBy roundBy roundsBy lockstepOf tableNumber tableOf numberOf indexOf kindAt cellOf placeOf ownOf knowsBy mayGoBy needOf everyOf doesOf namesOf bodyOf actAt actions-readAt joined lanesOf wiresOf isRoot aroundOf standsIn startsRound countAnswer childrenHave sendersHave everyHas headOf packetFirst ackFirst roomAnswer queueAnswer ownIn legalAnswer needAnswer answerIn pushed movedUp popped heardIn meanHeard effectIn counted afterIn freshWith startOf inRange doneIn doneOf actedAs recordIn actIn actOf listFrom listOf
 plan-witnesses =
     record {
       accepted = refl;
@@ -108,7 +108,7 @@ pub record ActionWitnesses : Type 0 where
   pub queue-full : answerOf (planOf (planT 1) .network) full PacketSent 0 1 ≡ 18
 
 pub action-witnesses : ActionWitnesses
-unfolding full ifB ifLt ifEq both allBelow sumBelow countBelow foldBelow firstOf overBelow listBelow pickBelow total digit member inserted removed sizeOf lowestOf allIn sumIn membersOf valuesIn towards linkGives linkSet childSet withSets added linked adopted withinLimits nodeFits rises linkFits linkRises linkStands agrees validNetwork bodyLength recordAt records-readAt roundsRule nodeRule followsOf linkRule endRule zeroNetwork roundsAdded nodeAdded linkAdded turn listsFrom listsOf pairIs joins linkBetween hasLink climb rootOf rootFrom depthFrom depthOf LeadsIn untied firstUntied Tied firstLost rootsOf rootAt inside firstInside chosen preferredBetween notOne firstNotOne clusterCount clusterOf JoinsTwo PairHasOne follow across pass joinedMarks firstUnjoined checksOf planOf shareOf ruleOf meanOf nextBy roundBy roundsBy lockstepOf tableNumber tableOf numberOf indexOf kindAt cellOf placeOf ownOf knowsBy mayGoBy needOf everyOf doesOf namesOf bodyOf actAt actions-readAt joined lanesOf wiresOf isRoot aroundOf standsIn startsRound countAnswer childrenHave sendersHave everyHas headOf packetFirst ackFirst roomAnswer queueAnswer ownIn legalAnswer needAnswer answerIn pushed movedUp popped meanHeard effectIn counted afterIn freshWith startOf inRange doneIn doneOf actedAs recordIn actIn actOf listFrom listOf
+unfolding full ifB ifLt ifEq both allBelow sumBelow countBelow foldBelow firstOf overBelow listBelow pickBelow total digit member inserted removed sizeOf lowestOf allIn sumIn membersOf valuesIn towards linkGives linkSet childSet withSets added linked adopted withinLimits nodeFits rises linkFits linkRises linkStands agrees validNetwork bodyLength recordAt records-readAt roundsRule nodeRule followsOf linkRule endRule zeroNetwork roundsAdded nodeAdded linkAdded turn listsFrom listsOf pairIs joins linkBetween hasLink climb rootOf rootFrom depthFrom depthOf LeadsIn untied firstUntied Tied firstLost rootsOf rootAt inside firstInside chosen preferredBetween notOne firstNotOne clusterCount clusterOf JoinsTwo PairHasOne follow across pass joinedMarks firstUnjoined checksOf planOf shareOf ruleOf meanOf nextBy roundBy roundsBy lockstepOf tableNumber tableOf numberOf indexOf kindAt cellOf placeOf ownOf knowsBy mayGoBy needOf everyOf doesOf namesOf bodyOf actAt actions-readAt joined lanesOf wiresOf isRoot aroundOf standsIn startsRound countAnswer childrenHave sendersHave everyHas headOf packetFirst ackFirst roomAnswer queueAnswer ownIn legalAnswer needAnswer answerIn pushed movedUp popped heardIn meanHeard effectIn counted afterIn freshWith startOf inRange doneIn doneOf actedAs recordIn actIn actOf listFrom listOf
 action-witnesses =
     record {
       taken = listed-is (16 ∷ 0 ∷ []) 0 refl refl refl;
@@ -131,6 +131,6 @@ pub record StartAndTableWitnesses : Type 0 where
   pub no-room : tableNumber (planOf (planT 1) .network) 1 1 ≡ 21
 
 pub start-and-table-witnesses : StartAndTableWitnesses
-unfolding ifB ifLt ifEq both allBelow sumBelow countBelow foldBelow firstOf overBelow listBelow pickBelow total digit member inserted removed sizeOf lowestOf allIn sumIn membersOf valuesIn towards linkGives linkSet childSet withSets added linked adopted withinLimits nodeFits rises linkFits linkRises linkStands agrees validNetwork bodyLength recordAt records-readAt roundsRule nodeRule followsOf linkRule endRule zeroNetwork roundsAdded nodeAdded linkAdded turn listsFrom listsOf pairIs joins linkBetween hasLink climb rootOf rootFrom depthFrom depthOf LeadsIn untied firstUntied Tied firstLost rootsOf rootAt inside firstInside chosen preferredBetween notOne firstNotOne clusterCount clusterOf JoinsTwo PairHasOne follow across pass joinedMarks firstUnjoined checksOf planOf shareOf ruleOf meanOf nextBy roundBy roundsBy lockstepOf tableNumber tableOf numberOf indexOf kindAt cellOf placeOf ownOf knowsBy mayGoBy needOf everyOf doesOf namesOf bodyOf actAt actions-readAt joined lanesOf wiresOf isRoot aroundOf standsIn startsRound countAnswer childrenHave sendersHave everyHas headOf packetFirst ackFirst roomAnswer queueAnswer ownIn legalAnswer needAnswer answerIn pushed movedUp popped meanHeard effectIn counted afterIn freshWith startOf inRange doneIn doneOf actedAs recordIn actIn actOf listFrom listOf
+unfolding ifB ifLt ifEq both allBelow sumBelow countBelow foldBelow firstOf overBelow listBelow pickBelow total digit member inserted removed sizeOf lowestOf allIn sumIn membersOf valuesIn towards linkGives linkSet childSet withSets added linked adopted withinLimits nodeFits rises linkFits linkRises linkStands agrees validNetwork bodyLength recordAt records-readAt roundsRule nodeRule followsOf linkRule endRule zeroNetwork roundsAdded nodeAdded linkAdded turn listsFrom listsOf pairIs joins linkBetween hasLink climb rootOf rootFrom depthFrom depthOf LeadsIn untied firstUntied Tied firstLost rootsOf rootAt inside firstInside chosen preferredBetween notOne firstNotOne clusterCount clusterOf JoinsTwo PairHasOne follow across pass joinedMarks firstUnjoined checksOf planOf shareOf ruleOf meanOf nextBy roundBy roundsBy lockstepOf tableNumber tableOf numberOf indexOf kindAt cellOf placeOf ownOf knowsBy mayGoBy needOf everyOf doesOf namesOf bodyOf actAt actions-readAt joined lanesOf wiresOf isRoot aroundOf standsIn startsRound countAnswer childrenHave sendersHave everyHas headOf packetFirst ackFirst roomAnswer queueAnswer ownIn legalAnswer needAnswer answerIn pushed movedUp popped heardIn meanHeard effectIn counted afterIn freshWith startOf inRange doneIn doneOf actedAs recordIn actIn actOf listFrom listOf
 start-and-table-witnesses =
     record { started = refl; not-started = refl; tabled = refl; out-of-range = refl; too-many-rounds = refl; no-room = refl }

@@ -17,7 +17,8 @@ use Rattle.automaton.specs.Global.{begin}
 use Rattle.automaton.specs.Answer.{answer}
 use Rattle.automaton.specs.Run.{after}
 use Rattle.automaton.specs.Lockstep.{lockstep}
-use Rattle.guarantees.specs.Reading.{netOf, kindOf, read}
+use Rattle.guarantees.specs.Kinds.{kindOf}
+use Rattle.guarantees.specs.Reading.{netOf, read}
 
 -- a state within the ranges of 17, whose arrays are as long as the struct says
 abbrev pub InRange : Network → State → Type 0

@@ -1,7 +1,11 @@
 pub mod Among
 pub mod Bridge
+pub mod Kinds
 pub mod Outcome
+pub mod Plans
+pub mod Promise
 pub mod Promise_W4
 pub mod Reading
+pub mod Records
 pub mod Steps
 pub mod Trials

@@ -1,4 +1,4 @@
--- What W4 adds to the promise: "Lay out the clusters from the wire list", for any bytes, any depth and any buffer. `proofs/Layouts.antt` proves it of
+-- What W4 adds to the promise: "Lay out the clusters from the wire list", for any bytes, any depth and any buffer. `proofs/Promise_W4.antt` proves it of
 -- `layout::layout` and of `teravulk_layout`, and what follows from it.
 -- Assumes nothing.
 use Prim.Native.Nat.{ℕ, _<_}

@@ -1,7 +1,7 @@
 -- How the code's network and state, which are arrays, are read as the automaton's, which are functions. With this page and
 -- `automaton/specs` a reader knows what every action does; that the code's own definitions say the same is proved (`proofs/Bridge.antt`).
 -- Assumes nothing.
-use Prim.Native.Nat.{ℕ, _+_, _*_, min, max}
+use Prim.Native.Nat.{ℕ, _+_, _-_, _*_, min, max}
 use mathlib.Core.Bool.{Bool, true, false}
 use mathlib.Core.List.{List, []}
 use lib.Dec.{ltb, eqb}
@@ -10,16 +10,11 @@ use Rattle.laws.specs.Choice.{ifB, ifLt, ifEq, both}
 use Rattle.laws.specs.Below.{firstOf, listBelow}
 use Rattle.network.specs.declared.Network.{Network}
 use Rattle.lockstep.specs.Rule.{ruleOf}
-use Rattle.actions.specs.declared.Kind.{Kind}
-use Rattle.actions.specs.declared.Kind.the-variants.{Output, PacketSent, PacketDelivered, AckSent, AckDelivered, Ok, SubtreeOkSent, SubtreeOkDelivered, ClusterOk, DownSent, DownDelivered, PreferredSent, PreferredDelivered, UpSent, UpDelivered, ClusterGo, SubtreeGoSent, SubtreeGoDelivered, Go, Input}
-use Rattle.actions.specs.Kinds.{cellOf, count}
-use Rattle.automaton.specs.Actions.{Act, output, packetSent, packetDelivered, ackSent, ackDelivered, ok, subtreeOkSent, subtreeOkDelivered, clusterOk}
-use Rattle.automaton.specs.Actions.{downSent, downDelivered, preferredSent, preferredDelivered, upSent, upDelivered, clusterGo}
-use Rattle.automaton.specs.Actions.{subtreeGoSent, subtreeGoDelivered, go, input}
-use Rattle.automaton.specs.Actions.{Place, aNode, aLink, aPreferredLink, aChild, aRoot, bodyOf}
+use Rattle.automaton.specs.Actions.{Act, Place, aNode, aLink, aPreferredLink, aChild, aRoot, bodyOf}
 use Rattle.automaton.specs.Network.{Net}
 use Rattle.automaton.specs.Global.{Msg, packet, ack, Global}
 use Rattle.synchronizer.specs.declared.State.{State}
+use Rattle.guarantees.specs.Records.{kindByte}
 
 -- ---- the network
 
@@ -48,29 +43,7 @@ netOf net =
       rule = ruleOf;
     }
 
--- ---- the kinds of the actions
-
-unfoldable pub kindOf : Act → Kind
-kindOf (output p) = Output
-kindOf (packetSent p q) = PacketSent
-kindOf (packetDelivered p q) = PacketDelivered
-kindOf (ackSent p q) = AckSent
-kindOf (ackDelivered p q) = AckDelivered
-kindOf (ok p) = Ok
-kindOf (subtreeOkSent p) = SubtreeOkSent
-kindOf (subtreeOkDelivered p) = SubtreeOkDelivered
-kindOf (clusterOk p) = ClusterOk
-kindOf (downSent p) = DownSent
-kindOf (downDelivered p) = DownDelivered
-kindOf (preferredSent p q) = PreferredSent
-kindOf (preferredDelivered p q) = PreferredDelivered
-kindOf (upSent p) = UpSent
-kindOf (upDelivered p) = UpDelivered
-kindOf (clusterGo p) = ClusterGo
-kindOf (subtreeGoSent p) = SubtreeGoSent
-kindOf (subtreeGoDelivered p) = SubtreeGoDelivered
-kindOf (go p) = Go
-kindOf (input p) = Input
+-- ---- the counts of the actions
 
 -- the body names the two ends of a link
 unfoldable pub namesLink : Place → Bool
@@ -86,17 +59,21 @@ namesLink aRoot = false
 unfoldable pub directionOf : Network → ℕ → ℕ → ℕ
 directionOf net p q = linkOf net p q * 2 + ifLt p q 0 1
 
+-- place x in the row of the action's kind: the rows stand in the order of the kinds
+unfoldable pub cellAt : Act → ℕ → ℕ
+cellAt a x = (kindByte a - 16) * 256 + x
+
 module _ (net : Network) where
   -- "the counts of every node and every direction of every link": the action has a count in the array
   unfoldable pub seated : Act → Bool
   seated a = ifB (namesLink (bodyOf a .place)) (joins net (bodyOf a .p) (bodyOf a .q)) (ltb (bodyOf a .p) (net .nodes))
 
-  -- where it stands in the row of the action's kind
+  -- where it stands in the row of the action's kind; a row has 256 places
   unfoldable pub seatOf : Act → ℕ
   seatOf a = ifB (namesLink (bodyOf a .place)) (directionOf net (bodyOf a .p) (bodyOf a .q)) (bodyOf a .p)
 
   unfoldable pub countOf : State → Act → ℕ
-  countOf s a = ifB (seated a) (getD (s .counts) (cellOf (count (kindOf a) (seatOf a))) 0) 0
+  countOf s a = ifB (seated a) (getD (s .counts) (cellAt a (seatOf a)) 0) 0
 
 -- a waiting message by its sort: 1 a packet, 2 an ack
 unfoldable pub messageOf : ℕ → ℕ → Msg ℕ

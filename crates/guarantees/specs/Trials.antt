@@ -135,3 +135,27 @@ starred =
     ∷ each-the-others-parent
     ∷ two-roots-no-link
     ∷ []
+
+-- ---- worked out by hand, besides
+
+-- a whole round of P: every kind that the starred trials have not, the words up and down the tree
+abbrev pub wholeRound : List ℕ
+wholeRound =
+    (16 ∷ 0 ∷ 16 ∷ 1 ∷ 16 ∷ 2 ∷ [])
+    ++ (17 ∷ 0 ∷ 1 ∷ 18 ∷ 0 ∷ 1 ∷ 17 ∷ 1 ∷ 0 ∷ 18 ∷ 1 ∷ 0 ∷ 17 ∷ 1 ∷ 2 ∷ 18 ∷ 1 ∷ 2 ∷ 17 ∷ 2 ∷ 1 ∷ 18 ∷ 2 ∷ 1 ∷ [])
+    ++ (19 ∷ 1 ∷ 0 ∷ 20 ∷ 1 ∷ 0 ∷ 19 ∷ 0 ∷ 1 ∷ 20 ∷ 0 ∷ 1 ∷ 19 ∷ 2 ∷ 1 ∷ 20 ∷ 2 ∷ 1 ∷ 19 ∷ 1 ∷ 2 ∷ 20 ∷ 1 ∷ 2 ∷ [])
+    ++ (21 ∷ 0 ∷ 21 ∷ 1 ∷ 21 ∷ 2 ∷ 22 ∷ 0 ∷ 23 ∷ 0 ∷ 22 ∷ 2 ∷ 23 ∷ 2 ∷ 24 ∷ 1 ∷ [])
+    ++ (25 ∷ 0 ∷ 26 ∷ 0 ∷ 25 ∷ 2 ∷ 26 ∷ 2 ∷ 29 ∷ 0 ∷ 30 ∷ 0 ∷ 29 ∷ 2 ∷ 30 ∷ 2 ∷ 31 ∷ 1 ∷ [])
+    ++ (32 ∷ 0 ∷ 33 ∷ 0 ∷ 32 ∷ 2 ∷ 33 ∷ 2 ∷ 34 ∷ 0 ∷ 34 ∷ 1 ∷ 34 ∷ 2 ∷ 35 ∷ 0 ∷ 35 ∷ 1 ∷ 35 ∷ 2 ∷ [])
+
+-- 46 actions in 108 bytes; (0 + 10) / 2, (10 + 0 + 5) / 3, (5 + 10) / 2
+abbrev pub P-whole-round : Trial
+P-whole-round = trial (planP 1) wholeRound 1 (end (0, 27) (0, 108, 46) (5 ∷ 5 ∷ 7 ∷ []) (5 ∷ 5 ∷ 7 ∷ []))
+
+-- the same up to the words down the tree, and then node 0's up word: it does not know yet
+abbrev pub P-up-before-down : Trial
+P-up-before-down =
+    trial (planP 1) (take 70 wholeRound ++ 29 ∷ 0 ∷ []) 0 (end (0, 27) (16, 70, 27) (0 ∷ 10 ∷ 5 ∷ []) (0 ∷ 10 ∷ 5 ∷ []))
+
+abbrev pub worked : List Trial
+worked = P-whole-round ∷ P-up-before-down ∷ []

@@ -13,7 +13,7 @@ use Rattle.network.specs.Sets.{withSets}
 use Rattle.records.specs.Numbers.{accepted}
 use Rattle.records.specs.Reader.{refusedWith, acceptedWith, listsOf}
 use Rattle.records.specs.Plan.{Plan, networkOf}
-use Rattle.records.specs.Keeps.{Bytes}
+use Rattle.laws.specs.Lists.{Bytes}
 use Rattle.records.proofs.Answers.{answer-refused, every-answer}
 use Rattle.records.proofs.Through.{accepted-answer, refused-answer, refused-is-no-0}
 use Rattle.links.specs.Links.{nodesOf}

@@ -11,7 +11,7 @@ use Rattle.network.specs.Sets.{withSets}
 use Rattle.records.specs.Numbers.{accepted}
 use Rattle.records.specs.Reader.{acceptedWith}
 use Rattle.records.specs.Plan.{Plan, bytesOf, Keeps1to5}
-use Rattle.records.specs.Keeps.{Bytes}
+use Rattle.laws.specs.Lists.{Bytes}
 use Rattle.records.proofs.Through.{refused-is-no-0}
 use Rattle.plan.specs.Checks.{planOf}
 use Rattle.plan.specs.Accepted.{planNetwork}

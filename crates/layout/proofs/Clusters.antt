@@ -16,7 +16,7 @@ use Rattle.claims.proofs.Layouts.{deep-leads}
 use Rattle.claims.proofs.Steps.{claimed-so}
 use Rattle.records.specs.Numbers.{accepted}
 use Rattle.records.specs.Reader.{listsOf}
-use Rattle.records.specs.Keeps.{Bytes}
+use Rattle.laws.specs.Lists.{Bytes}
 use Rattle.links.specs.Links.{nodesOf, linksOf}
 use Rattle.layout.specs.Layout.{wiresOf, laidParents, Clustered}
 use Rattle.layout.proofs.Places.{ends-within}

@@ -11,7 +11,8 @@ use Rattle.network.specs.Sets.{withSets}
 use Rattle.records.specs.Numbers.{accepted}
 use Rattle.records.specs.Reader.{acceptedWith, listsOf}
 use Rattle.records.specs.Plan.{Plan, networkOf, Keeps1to5}
-use Rattle.records.specs.Keeps.{Bytes, Accepted1to5}
+use Rattle.laws.specs.Lists.{Bytes}
+use Rattle.records.specs.Keeps.{Accepted1to5}
 use Rattle.records.proofs.Answers.{answer-accepted}
 use Rattle.records.proofs.Kept.{kept-ends}
 use Rattle.links.specs.Links.{nodesOf, linksOf}

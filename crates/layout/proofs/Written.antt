@@ -11,7 +11,7 @@ use Rattle.records.specs.Reader.{acceptedWith}
 use Rattle.records.specs.Plan.{Plan, bytesOf}
 use Rattle.records.proofs.Networks.{one-plan}
 use Rattle.plan.specs.Checks.{planOf}
-use Rattle.plan.specs.Accepted.{planNetwork}
+use Rattle.plan.specs.Accepted.{planNetwork, Accepted}
 use Rattle.plan.proofs.Answers.{accepted-plan}
 use Rattle.layout.specs.Answers.{Holds, AllJoined, Written}
 use Rattle.layout.specs.LaidOut.{SameWires}
@@ -49,17 +49,19 @@ module _ {s : List ℕ} {depth : ℕ} {before : List ℕ} {n : ℕ} {after : Lis
   written-joined = joined-same (W .as-asked .same) (W .joined)
 
   -- "what is written is always accepted": the plan reader is given the whole buffer, whatever stands behind the plan
-  pub written-accepted : planOf after ≡ acceptedWith n (planNetwork (W .laid-plan))
-  written-accepted =
-      accepted-plan after n (planNetwork (W .laid-plan))
-      (record {
+  pub written-plan : Accepted after n (planNetwork (W .laid-plan))
+  written-plan =
+      record {
         plan = W .laid-plan;
         keeps-records = written-held .keeps;
         keeps-whole = laid-keeps (W .as-asked) (W .given .keeps) (W .joined);
         within = after-holds;
         bytes = W .bytes;
         network = refl;
-      })
+      }
+
+  pub written-accepted : planOf after ≡ acceptedWith n (planNetwork (W .laid-plan))
+  written-accepted = accepted-plan after n (planNetwork (W .laid-plan)) written-plan
 
   -- only the plan's own bytes count
   pub written-from : (t : List ℕ) → n ≤ length t → take n t ≡ take n s → Written t depth before n after

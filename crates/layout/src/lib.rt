@@ -12,7 +12,7 @@ use records::read_lists;
 ghost use mathlib.Core.Path.{_≡_};
 ghost use Prim.Native.Nat.{ℕ, _+_, _*_, _<_, _≤_};
 ghost use lib.ListN.{length};
-ghost use Rattle.records.specs.Keeps.{Bytes};
+ghost use Rattle.laws.specs.Lists.{Bytes};
 ghost use Rattle.layout.specs.Layout.{copied, withFields, flagBy, metWith, firstFlags, Clustered, LaysOut, laidOver, layoutOf, laidIn};
 
 // "depth above 63"

@@ -1,4 +1,3 @@
 pub mod Rounds
 pub mod Rule
 pub mod Tables
-pub mod Trials

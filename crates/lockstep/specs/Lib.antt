@@ -1,4 +1,3 @@
 pub mod Rounds
 pub mod Rule
 pub mod Table
-pub mod Trials

@@ -120,7 +120,8 @@ fn answer(net: Network, rounds: u16, room: usize) -> u8
 
 // The lockstep table of so many rounds: each node's value, in the first entries of the buffer. A refused table writes nothing.
 pub fn table(net: Network, rounds: u16, out: &mut [u16]) -> u8
-    ensures { λ r. ⌜ (r ≡ tableNumber net rounds (length (now (out .entry)))) × (now (out .exit) ≡ tableOf net rounds (now (out .entry))) ⌝ }
+    ensures table { λ r. ⌜ (r ≡ tableNumber net rounds (length (now (out .entry)))) × (now (out .exit) ≡ tableOf net rounds (now (out .entry))) ⌝ }
+    ensures long { λ _. ⌜ length (net .starts) ≡ 64 ⌝ }
 {
     let nodes = net.nodes;
     let neighbours = net.neighbours;

@@ -7,6 +7,7 @@ use native.Mathlib.Omega.{arith}
 use mathlib.Core.Path.{_≡_, refl, sym, _∙_, ap, subst₂}
 use mathlib.Core.Logic.{_↔_, ⊎-elim}
 use mathlib.Core.List.{List}
+use Rattle.laws.specs.Lists.{Bytes}
 use Rattle.laws.proofs.Choice.{ifEq-yes, ifEq-no}
 use Rattle.network.specs.declared.Network.{Network}
 use Rattle.network.specs.Sets.{withSets}
@@ -14,7 +15,7 @@ use Rattle.records.specs.Numbers.{accepted}
 use Rattle.network.specs.Zeros.{zeroNetwork}
 use Rattle.records.specs.Reader.{refusedWith, acceptedWith, listsOf}
 use Rattle.records.specs.Plan.{networkOf}
-use Rattle.records.specs.Keeps.{Bytes, Accepted1to5}
+use Rattle.records.specs.Keeps.{Accepted1to5}
 use Rattle.records.proofs.Answers.{answer-accepted, answer-refused, every-answer}
 use Rattle.records.proofs.Through.{accepted-answer, refused-answer, refused-is-no-0}
 use Rattle.plan.specs.Checks.{checksOf, planOf}

@@ -12,7 +12,6 @@ use Rattle.links.specs.Links.{nodesOf, linksOf}
 use Rattle.tree.specs.Checks.{Tied, EndsAtRoot}
 use Rattle.clusters.specs.Clusters.{JoinsTwo, PairHasOne}
 use Rattle.joined.specs.Joined.{JoinedIn}
-use Rattle.plan.specs.Numbers.{untied, lost, inside, notOne, unjoined}
 
 -- the network of a plan: its lists, and the sets that they give
 abbrev pub planNetwork : Plan → Network
@@ -43,11 +42,11 @@ pub record Keeps6to10 (net : Network) : Type 0 where
 
 -- k is the first of 6 to 10 that the plan breaks, and w the lowest node or first link that breaks it
 pub data Breaks6to10 (net : Network) (k w : ℕ) : Type 0 where
-  by-6 : k ≡ untied → FirstBroken (Tied net) (nodesOf net) w → Breaks6to10 net k w
-  by-7 : k ≡ lost → Every (Tied net) (nodesOf net) → FirstBroken (EndsAtRoot net) (nodesOf net) w → Breaks6to10 net k w
-  by-8 : k ≡ inside → Every (Tied net) (nodesOf net) → Every (EndsAtRoot net) (nodesOf net) → FirstBroken (JoinsTwo net) (linksOf net) w → Breaks6to10 net k w
-  by-9 : k ≡ notOne → Every (Tied net) (nodesOf net) → Every (EndsAtRoot net) (nodesOf net) → Every (JoinsTwo net) (linksOf net) → FirstBroken (PairHasOne net) (linksOf net) w → Breaks6to10 net k w
-  by-10 : k ≡ unjoined → Every (Tied net) (nodesOf net) → Every (EndsAtRoot net) (nodesOf net) → Every (JoinsTwo net) (linksOf net) → Every (PairHasOne net) (linksOf net) → FirstBroken (JoinedIn net) (nodesOf net) w → Breaks6to10 net k w
+  by-6 : k ≡ 6 → FirstBroken (Tied net) (nodesOf net) w → Breaks6to10 net k w
+  by-7 : k ≡ 7 → Every (Tied net) (nodesOf net) → FirstBroken (EndsAtRoot net) (nodesOf net) w → Breaks6to10 net k w
+  by-8 : k ≡ 8 → Every (Tied net) (nodesOf net) → Every (EndsAtRoot net) (nodesOf net) → FirstBroken (JoinsTwo net) (linksOf net) w → Breaks6to10 net k w
+  by-9 : k ≡ 9 → Every (Tied net) (nodesOf net) → Every (EndsAtRoot net) (nodesOf net) → Every (JoinsTwo net) (linksOf net) → FirstBroken (PairHasOne net) (linksOf net) w → Breaks6to10 net k w
+  by-10 : k ≡ 10 → Every (Tied net) (nodesOf net) → Every (EndsAtRoot net) (nodesOf net) → Every (JoinsTwo net) (linksOf net) → Every (PairHasOne net) (linksOf net) → FirstBroken (JoinedIn net) (nodesOf net) w → Breaks6to10 net k w
 
 -- accepted: the n bytes hold a plan that keeps every rule, and the network is that plan's, field by field
 pub record Accepted (s : List ℕ) (n : ℕ) (net : Network) : Type 0 where

@@ -13,6 +13,7 @@ use records::read_lists;
 use tree::first_lost;
 use tree::first_untied;
 ghost use mathlib.Core.Path.{_≡_};
+ghost use Rattle.laws.specs.Lists.{Bytes};
 ghost use Rattle.plan.specs.Checks.{checksOf, planOf};
 
 // The plan's numbers that the whole of it decides.
@@ -59,7 +60,8 @@ fn check_whole(net: Network, taken: usize) -> Planned
 // Any bytes: 0, the number of bytes that the plan took and its network with the sets filled; or 1 to 10, document 01's place for it, and
 // a network of zeros.
 pub fn read_plan(bytes: &[u8]) -> Planned
-    ensures { λ r. ⌜ r ≡ planOf (now (bytes .entry)) ⌝ }
+    ensures answer { λ r. ⌜ r ≡ planOf (now (bytes .entry)) ⌝ }
+    ensures small { λ _. ⌜ Bytes (now (bytes .entry)) ⌝ }
 {
     let lists = read_lists(bytes);
     if lists.number != ACCEPTED {

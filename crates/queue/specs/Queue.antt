@@ -68,5 +68,7 @@ abbrev pub slotAt : ℕ → ℕ → ℕ
 slotAt d i = d * 2 + i % 2
 
 -- "Delivery i puts it in the slot of i's parity": the value that the first message of direction d carries
-abbrev pub heardIn : List ℕ → List ℕ → ℕ → ℕ → List ℕ
-heardIn slots loads d i = set slots (slotAt d i) (getD loads (d * 2) 0)
+unfoldable pub heardIn : List ℕ → Head → ℕ → ℕ → List ℕ
+heardIn slots (Head.Packet v) d i = set slots (slotAt d i) v
+heardIn slots Head.Ack d i = slots
+heardIn slots Head.Empty d i = slots

@@ -102,7 +102,8 @@ pub fn pop(lens: &mut [u8; 256], sorts: &mut [u8; 512], loads: &mut [u16; 512], 
     }
 }
 
-// "Delivery i puts it in the slot of i's parity": the first message leaves, and its value is the last one heard of an odd or of an even round.
+// "Delivery i puts it in the slot of i's parity": the first message leaves, and the value of a packet is the last one heard of an odd or of an
+// even round.
 pub fn deliver(
     lens: &mut [u8; 256],
     sorts: &mut [u8; 512],
@@ -112,9 +113,12 @@ pub fn deliver(
     i: u16,
 )
     ensures left { λ _. ⌜ queues (now (lens .exit)) (now (sorts .exit)) (now (loads .exit)) ≡ popped (queues (now (lens .entry)) (now (sorts .entry)) (now (loads .entry))) d ⌝ }
-    ensures heard { λ _. ⌜ now (slots .exit) ≡ heardIn (now (slots .entry)) (now (loads .entry)) d i ⌝ }
+    ensures heard { λ _. ⌜ now (slots .exit) ≡ heardIn (now (slots .entry)) (headOf (now (lens .entry)) (now (sorts .entry)) (now (loads .entry)) d) d i ⌝ }
 {
-    let at = (d as usize) * 2;
-    slots[at + (i % 2) as usize] = loads[at];
+    let head = first(lens, sorts, loads, d);
     pop(lens, sorts, loads, d);
+    let Head::Packet(value) = head else {
+        return;
+    };
+    slots[(d as usize) * 2 + (i % 2) as usize] = value;
 }

@@ -8,12 +8,13 @@ use mathlib.Core.Logic.{_⊎_, inl, inr, _↔_}
 use mathlib.Core.List.{List, _++_}
 use lib.ListN.{length, take, length-append}
 use lib.Seq.{take-append-seam}
+use Rattle.laws.specs.Lists.{Bytes}
 use Rattle.network.specs.declared.Network.{Network}
 use Rattle.records.specs.Numbers.{accepted}
 use Rattle.network.specs.Zeros.{zeroNetwork}
 use Rattle.records.specs.Reader.{refusedWith, acceptedWith, listsOf}
 use Rattle.records.specs.Plan.{Plan, bytesOf, networkOf, Keeps1to5}
-use Rattle.records.specs.Keeps.{Bytes, Accepted1to5, Refused1to5}
+use Rattle.records.specs.Keeps.{Accepted1to5, Refused1to5}
 use Rattle.records.proofs.Networks.{one-plan}
 use Rattle.records.proofs.Outcome.{Outcome, taken, stopped, outcome}
 use Rattle.records.proofs.Through.{accepted-answer, refused-answer}

@@ -4,9 +4,10 @@
 use Prim.Native.Nat.{ℕ, zero, suc, _+_, _<_, _≤_}
 use native.Mathlib.Omega.{arith}
 use mathlib.Core.Path.{_≡_, refl, sym, _∙_, ap, ap₂, subst}
-use mathlib.Core.Bool.{false}
+use mathlib.Core.Bool.{true, false}
 use mathlib.Core.List.{List, [], _∷_, _++_, append-nil, append-assoc}
 use lib.ListN.{length}
+use Rattle.laws.proofs.Choice.{true-not-false}
 use Rattle.records.specs.declared.Record.{Record}
 use Rattle.records.specs.declared.Record.the-variants.{End, Rounds, Node, Link}
 use Rattle.records.specs.Reader.{closesOf}
@@ -36,6 +37,16 @@ unfolding roundsRecords
 some-rounds zero h = absurd (omega arith)
 some-rounds (suc n) h = refl
 
+-- a record goes on exactly where it is not kind 0
+goes-not-end : (r : Record) → closesOf r ≡ false → r ≡ End → ⊥
+goes-not-end r c e = true-not-false (closesOf r) (ap closesOf e) c
+
+pub not-end-goes : (r : Record) → (r ≡ End → ⊥) → closesOf r ≡ false
+not-end-goes End n = absurd (n refl)
+not-end-goes (Rounds v) n = refl
+not-end-goes (Node number parent start) n = refl
+not-end-goes (Link a b flag) n = refl
+
 -- ---- lists of records, one after the other
 
 pub with-all-append : (p : Plan) (rs qs : List Record) → withAll p (rs ++ qs) ≡ withAll (withAll p rs) qs
@@ -64,7 +75,7 @@ bytes-one-more rs r = bytes-append rs (r ∷ []) ∙ ap (λ l. recordsBytes rs +
 
 pub each-one-more : (p : Plan) (rs : List Record) (r : Record) → EachKeeps p rs → closesOf r ≡ false → Keeps (withAll p rs) r → EachKeeps p (rs ++ r ∷ [])
 unfolding EachKeeps
-each-one-more p rs r k c w = each-append p rs (r ∷ []) k (c, w, tt)
+each-one-more p rs r k c w = each-append p rs (r ∷ []) k (goes-not-end r c, w, tt)
 
 -- ---- one entry more
 
@@ -250,7 +261,7 @@ nodes-keep : (v number : ℕ) (done xs : List PlanNode) → 0 < v → number ≡
 unfolding planOf EachKeeps nodeRecords
 nodes-keep v number done [] h e l = tt
 nodes-keep v number done (x ∷ xs) h e l =
-    (refl, ((h, refl, e), omega arith, tt), nodes-keep v (suc number) (done ++ x ∷ []) xs h (omega (arith, length-more done x)) (omega arith))
+    (goes-not-end _ refl, ((h, refl, e), omega arith, tt), nodes-keep v (suc number) (done ++ x ∷ []) xs h (omega (arith, length-more done x)) (omega arith))
 
 nodes-add-up : (v number : ℕ) (done xs : List PlanNode) → withAll (planOf v done []) (nodeRecords number xs) ≡ planOf v (done ++ xs) []
 unfolding planOf withAll nodeRecords
@@ -274,7 +285,7 @@ unfolding planOf EachKeeps linkRecords LinksFit
 links-keep v ns done [] h l f r = tt
 links-keep v ns done (x ∷ xs) h l f r =
     let r′ : Rising (done ++ x ∷ [] ++ xs) = rw append-assoc r in
-    (refl, ((h, rising-front (done ++ x ∷ []) xs r′), omega arith, f .0), links-keep v ns (done ++ x ∷ []) xs h (omega (arith, length-more done x)) (f .1) r′)
+    (goes-not-end _ refl, ((h, rising-front (done ++ x ∷ []) xs r′), omega arith, f .0), links-keep v ns (done ++ x ∷ []) xs h (omega (arith, length-more done x)) (f .1) r′)
 
 links-add-up : (v : ℕ) (ns : List PlanNode) (done xs : List PlanLink) → withAll (planOf v ns done) (linkRecords xs) ≡ planOf v ns (done ++ xs)
 unfolding planOf withAll linkRecords
@@ -304,4 +315,4 @@ module _ (p : Plan) (K : Keeps1to5 p) where
       front : EachKeeps noPlan (roundsRecords (p .rounds) ++ nodeRecords 0 (p .nodes))
       front =
           rw (some-rounds (p .rounds) (K .some-round))
-          (refl, (refl, tt, (K .some-round, K .at-most-10000-rounds)), nodes-keep (p .rounds) 0 [] (p .nodes) (K .some-round) refl (omega (arith, K .at-most-64-nodes)))
+          (goes-not-end _ refl, (refl, tt, (K .some-round, K .at-most-10000-rounds)), nodes-keep (p .rounds) 0 [] (p .nodes) (K .some-round) refl (omega (arith, K .at-most-64-nodes)))

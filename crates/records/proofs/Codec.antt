@@ -9,6 +9,7 @@ use mathlib.Core.List.{List, [], _∷_}
 use lib.ListN.{length, getD, take, drop, length-take, length-drop}
 use lib.Seq.{drop-cons, getD-take, getD-drop}
 use lib.Arith.{digits-div, digits-mod}
+use Rattle.laws.specs.Lists.{Bytes}
 use Rattle.laws.specs.Choice.{ifB, ifLt, ifEq}
 use Rattle.laws.proofs.Choice.{lt-elim, ifLt-yes, ifLt-no}
 use Rattle.records.specs.declared.Record.{Record}
@@ -18,7 +19,7 @@ use Rattle.records.specs.declared.Read.{Read}
 use Rattle.records.specs.declared.Read.the-variants.{Nothing, Unknown, Short, Whole}
 use Rattle.records.specs.Record.{bodyLength, pairOf, recordAt, readAt}
 use Rattle.records.specs.Plan.{twoBytes, roundsBytes, nodeBytes, linkBytes}
-use Rattle.records.specs.Keeps.{Bytes, recordBytes}
+use Rattle.records.specs.Keeps.{recordBytes}
 
 -- ---- what a read finds, by cases
 

@@ -9,6 +9,7 @@ use mathlib.Core.List.{List, [], _∷_, _++_}
 use lib.ListN.{length, getD, take, drop, length-take, length-drop}
 use lib.Seq.{take-add}
 use lib.Arith.{digits-lt}
+use Rattle.laws.specs.Lists.{Bytes}
 use Rattle.laws.proofs.Choice.{eq-elim, true-not-false}
 use Rattle.network.specs.declared.Network.{Network}
 use Rattle.records.specs.declared.Record.{Record}
@@ -19,7 +20,7 @@ use Rattle.records.specs.Record.{bodyLength, recordAt, readAt}
 use Rattle.records.specs.Rules.{ruleOf}
 use Rattle.records.specs.Reader.{HasRoom, closesOf, refusedWith, acceptedWith, listsOf}
 use Rattle.records.specs.Plan.{Plan, networkOf, Keeps1to5}
-use Rattle.records.specs.Keeps.{Bytes, recordBytes, noPlan, Keeps, BreaksFirst, EachKeeps, withAll, recordsBytes, BreaksAt, bytes-end, unknown, short, whole, Accepted1to5, Refused1to5}
+use Rattle.records.specs.Keeps.{recordBytes, noPlan, Keeps, BreaksFirst, EachKeeps, withAll, recordsBytes, BreaksAt, bytes-end, unknown, short, whole, Accepted1to5, Refused1to5}
 use Rattle.records.proofs.Begun.{Begun, Small, nothing-read, one-more-read, ended-keeps, plan-written, with-one-more, bytes-one-more, each-one-more}
 use Rattle.records.proofs.Codec.{read-cases, read-is-written}
 use Rattle.records.proofs.Keeping.{rule-cases, kept-gives-0, broken-is-no-0}

@@ -14,9 +14,9 @@ use Rattle.records.specs.declared.Read.the-variants.{Nothing, Unknown, S
 use Rattle.records.specs.Numbers.{accepted}
 use Rattle.records.specs.Record.{bodyLength, readAt}
 use Rattle.records.specs.Reader.{refusedWith, acceptedWith, listsOf}
-use Rattle.records.specs.Plan.{Plan, networkOf, Rising, Keeps1to5}
+use Rattle.records.specs.Plan.{Plan, bytesOf, networkOf, Rising, Keeps1to5}
 use Rattle.records.specs.Keeps.{recordBytes, noPlan, with, Keeps, EachKeeps, withAll, recordsBytes, BreaksAt, bytes-end, unknown, short, whole, Accepted1to5, Refused1to5}
-use Rattle.records.proofs.Begun.{recordsOf, plan-written, records-keep, records-add-up}
+use Rattle.records.proofs.Begun.{not-end-goes, recordsOf, plan-written, records-keep, records-add-up}
 use Rattle.records.proofs.Codec.{read-cases, written-is-read}
 use Rattle.records.proofs.Keeping.{kept-gives-0, broken-gives-its-number, broken-is-no-0}
 use Rattle.records.proofs.Networks.{network-of-none, network-with}
@@ -53,7 +53,7 @@ reads-through s p (r ∷ rs) at k o h R =
     let cs = recordsBytes rs in
     let kept = kept-gives-0 p o r (k .1) in
     let room = kept-has-room (networkOf p) r kept in
-    let next = goes-on R (written-is-read s at r (holds-front s at bs cs h)) kept (k .0) room in
+    let next = goes-on R (written-is-read s at r (holds-front s at bs cs h)) kept (not-end-goes r (k .0)) room in
     let (o′, R′) = reads-through s (with p r) rs (at + length bs) (k .2) (still-rising p r o (k .1)) (holds-rest s at bs cs h) (rw (network-with p r room) next) in
     let e : at + length bs + length cs ≡ at + length (bs ++ cs) = omega (arith, length-append bs cs) in
     (o′, subst (λ n. Reading s n (networkOf (withAll (with p r) rs))) e R′)
@@ -103,42 +103,52 @@ refused-answer s k w F = at-place (F .breaks)
         let given = broken-gives-its-number p (known .0) r k b in
         sym (at-fault (known .1) (written-is-read s w r stands) (λ z. broken-is-no-0 b (sym given ∙ z))) ∙ ap (λ x. refusedWith x w) given
 
-pub accepted-answer : (s : List ℕ) (n : ℕ) (net : Network) → Accepted1to5 s n net → listsOf s ≡ acceptedWith n net
+-- records that keep the rules, and kind 0 behind them after a node: the plan ends there
+pub closed-answer : (s : List ℕ) (rs : List Record) (w : ℕ) → EachKeeps noPlan rs → w ≤ length s → take w s ≡ recordsBytes rs → take 1 (drop w s) ≡ 0 ∷ [] → 0 < length (withAll noPlan rs .nodes) → listsOf s ≡ acceptedWith (w + 1) (networkOf (withAll noPlan rs))
 unfolding Holds
-accepted-answer s n net A =
-    sym (at-kind-0 (subst (λ q. Reading s w (networkOf q)) sum (known .1)) (written-is-read s w End kind-0) (kept-gives-0 p (K .links-rise) End (K .some-node, tt, tt)) refl)
-    ∙ ap₂ acceptedWith ended-at (sym (A .network))
+closed-answer s rs w k within e kind-0 some =
+    let known = read-before s rs w k (drop w s, first-bytes s w (recordsBytes rs) e) (sym (length-take-le w s within) ∙ ap length e) in
+    sym (at-kind-0 (known .1) (written-is-read s w End kind-0) (kept-gives-0 (withAll noPlan rs) (known .0) End (some, tt, tt)) refl)
+
+-- the records of an accepted plan, and kind 0 behind them
+pub record Closed (s : List ℕ) (n : ℕ) (p : Plan) : Type 0 where
+  pub before : take (length (recordsBytes (recordsOf p))) s ≡ recordsBytes (recordsOf p)
+  pub kind-0 : take 1 (drop (length (recordsBytes (recordsOf p))) s) ≡ 0 ∷ []
+  pub ends : length (recordsBytes (recordsOf p)) + 1 ≡ n
+
+pub accepted-closed : (s : List ℕ) (n : ℕ) (net : Network) (A : Accepted1to5 s n net) → Closed s n (A .plan)
+unfolding Holds
+accepted-closed s n net A = record { before = before; kind-0 = kind-0; ends = ends }
   where
     p : Plan
     p = A .plan
 
-    K : Keeps1to5 p
-    K = A .keeps
-
     bs : List ℕ
     bs = recordsBytes (recordsOf p)
 
-    w : ℕ
-    w = length bs
-
-    sum : withAll noPlan (recordsOf p) ≡ p
-    sum = records-add-up p K
+    written : bs ++ 0 ∷ [] ≡ bytesOf p
+    written = plan-written p (A .keeps .some-round)
 
     all : s ≡ bs ++ 0 ∷ [] ++ drop n s
-    all = first-bytes s n (bs ++ 0 ∷ []) (A .bytes ∙ sym (plan-written p (K .some-round)))
+    all = first-bytes s n (bs ++ 0 ∷ []) (A .bytes ∙ sym written)
 
-    known : Rising (withAll noPlan (recordsOf p) .links) × Reading s w (networkOf (withAll noPlan (recordsOf p)))
-    known =
-        read-before s (recordsOf p) w (records-keep p K) (0 ∷ [] ++ drop n s, all ∙ append-assoc bs (0 ∷ []) (drop n s)) refl
+    before : take (length bs) s ≡ bs
+    before = ap (take (length bs)) (all ∙ append-assoc bs (0 ∷ []) (drop n s)) ∙ take-append-seam bs (0 ∷ [] ++ drop n s)
 
-    kind-0 : take 1 (drop w s) ≡ 0 ∷ []
+    kind-0 : take 1 (drop (length bs) s) ≡ 0 ∷ []
     kind-0 =
-        let e : 0 + w ≡ w = omega arith in
-        subst (λ i. take 1 (drop i s) ≡ 0 ∷ []) e (holds-front s (0 + w) (0 ∷ []) [] (holds-rest s 0 bs (0 ∷ []) (drop n s, all)))
+        let e : 0 + length bs ≡ length bs = omega arith in
+        subst (λ i. take 1 (drop i s) ≡ 0 ∷ []) e (holds-front s (0 + length bs) (0 ∷ []) [] (holds-rest s 0 bs (0 ∷ []) (drop n s, all)))
 
-    ended-at : w + 1 ≡ n
-    ended-at =
-        omega (arith, length-take-le n s (A .within), ap length (A .bytes), ap length (plan-written p (K .some-round)), length-append bs (0 ∷ []))
+    ends : length bs + 1 ≡ n
+    ends = omega (arith, length-take-le n s (A .within), ap length (A .bytes), ap length written, length-append bs (0 ∷ []))
+
+pub accepted-answer : (s : List ℕ) (n : ℕ) (net : Network) → Accepted1to5 s n net → listsOf s ≡ acceptedWith n net
+accepted-answer s n net A =
+    let c = accepted-closed s n net A in
+    let sum : withAll noPlan (recordsOf (A .plan)) ≡ A .plan = records-add-up (A .plan) (A .keeps) in
+    closed-answer s (recordsOf (A .plan)) (length (recordsBytes (recordsOf (A .plan)))) (records-keep (A .plan) (A .keeps)) (omega (arith, c .ends, A .within)) (c .before) (c .kind-0) (rw sum (A .keeps .some-node))
+    ∙ ap₂ acceptedWith (c .ends) (ap networkOf sum ∙ sym (A .network))
 
 -- a refusal has a number of its own
 pub refused-is-no-0 : {s : List ℕ} {k w : ℕ} → Refused1to5 s k w → k ≡ accepted → ⊥

@@ -2,20 +2,13 @@
 -- Assumes nothing.
 use Prim.Native.Nat.{ℕ, _+_, _<_, _≤_}
 use mathlib.Core.Path.{_≡_}
-use mathlib.Core.Bool.{false}
 use mathlib.Core.List.{List, [], _∷_, _++_}
 use lib.ListN.{length, getD, take, drop}
 use Rattle.network.specs.declared.Network.{Network}
 use Rattle.records.specs.declared.Record.{Record}
 use Rattle.records.specs.declared.Record.the-variants.{End, Rounds, Node, Link}
-use Rattle.records.specs.Numbers.{kindUnknown, cutShort, outOfOrder, tooMany, outOfRange}
 use Rattle.records.specs.Record.{bodyLength}
-use Rattle.records.specs.Reader.{closesOf}
 use Rattle.records.specs.Plan.{Plan, roundsBytes, nodeBytes, linkBytes, bytesOf, networkOf, Keeps1to5, LinkFits, Rising}
-
--- what is handed in is bytes
-abbrev pub Bytes : List ℕ → Type 0
-Bytes s = (k : ℕ) → getD s k 0 < 256
 
 -- ---- one record after others
 
@@ -64,16 +57,16 @@ Keeps p r = InOrder p r × InNumber p r × InRange p r
 
 -- k is the lowest of 3, 4 and 5 that the record breaks
 pub data BreaksFirst (p : Plan) (r : Record) (k : ℕ) : Type 0 where
-  order : k ≡ outOfOrder → (InOrder p r → ⊥) → BreaksFirst p r k
-  number : k ≡ tooMany → InOrder p r → (InNumber p r → ⊥) → BreaksFirst p r k
-  range : k ≡ outOfRange → InOrder p r → InNumber p r → (InRange p r → ⊥) → BreaksFirst p r k
+  order : k ≡ 3 → (InOrder p r → ⊥) → BreaksFirst p r k
+  number : k ≡ 4 → InOrder p r → (InNumber p r → ⊥) → BreaksFirst p r k
+  range : k ≡ 5 → InOrder p r → InNumber p r → (InRange p r → ⊥) → BreaksFirst p r k
 
 -- ---- the records before a place, and what stands there
 
 -- each record keeps the rules after those before it, and none is kind 0
 unfoldable pub EachKeeps : Plan → List Record → Type 0
 EachKeeps p [] = Unit {0}
-EachKeeps p (r ∷ rs) = (closesOf r ≡ false) × Keeps p r × EachKeeps (with p r) rs
+EachKeeps p (r ∷ rs) = (r ≡ End → ⊥) × Keeps p r × EachKeeps (with p r) rs
 
 unfoldable pub withAll : Plan → List Record → Plan
 withAll p [] = p
@@ -86,11 +79,11 @@ recordsBytes (r ∷ rs) = recordBytes r ++ recordsBytes rs
 -- k is what document 01 gives for place w of the bytes, where p has been read before it
 pub data BreaksAt (s : List ℕ) (w : ℕ) (p : Plan) (k : ℕ) : Type 0 where
   -- "end of bytes without kind 0", and its place is the length
-  bytes-end : k ≡ outOfOrder → w ≡ length s → BreaksAt s w p k
+  bytes-end : k ≡ 3 → w ≡ length s → BreaksAt s w p k
   -- "kind unknown"
-  unknown : k ≡ kindUnknown → w < length s → 3 < getD s w 0 → BreaksAt s w p k
+  unknown : k ≡ 1 → w < length s → 3 < getD s w 0 → BreaksAt s w p k
   -- "body cut short"
-  short : k ≡ cutShort → w < length s → getD s w 0 ≤ 3 → length s < w + 1 + bodyLength (getD s w 0) → BreaksAt s w p k
+  short : k ≡ 2 → w < length s → getD s w 0 ≤ 3 → length s < w + 1 + bodyLength (getD s w 0) → BreaksAt s w p k
   -- a whole record stands there and breaks rule 3, 4 or 5
   whole : (r : Record) → take (length (recordBytes r)) (drop w s) ≡ recordBytes r → BreaksFirst p r k → BreaksAt s w p k
 

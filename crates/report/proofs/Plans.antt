@@ -5,9 +5,9 @@ use native.Mathlib.Omega.{arith}
 use mathlib.Core.Path.{_≡_, refl, _∙_, ap}
 use mathlib.Core.List.{List}
 use lib.ListN.{length}
+use Rattle.laws.specs.Lists.{Bytes}
 use Rattle.network.specs.Sets.{withSets}
 use Rattle.records.specs.Plan.{networkOf}
-use Rattle.records.specs.Keeps.{Bytes}
 use Rattle.records.specs.Reader.{answered, acceptedWith}
 use Rattle.plan.specs.Checks.{planOf}
 use Rattle.plan.specs.Accepted.{Accepted}

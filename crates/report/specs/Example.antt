@@ -14,3 +14,20 @@ output =
     ++ (110 ∷ 111 ∷ 100 ∷ 101 ∷ 32 ∷ 48 ∷ 32 ∷ 49 ∷ 32 ∷ 49 ∷ 32 ∷ 49 ∷ 48 ∷ 48 ∷ 10 ∷ [])
     ++ (116 ∷ 97 ∷ 107 ∷ 101 ∷ 110 ∷ 32 ∷ 54 ∷ 10 ∷ [])
     ++ (101 ∷ 110 ∷ 100 ∷ 32 ∷ 48 ∷ 32 ∷ 50 ∷ 49 ∷ 10 ∷ [])
+
+-- Plan P with 4 rounds, an output of node 0, and a second one that is refused. Nodes, links, clusters and rounds all differ, and so do node 0's
+-- outputs and inputs: a text with two of them exchanged is another.
+unfoldable pub halfway : List ℕ
+halfway =
+    (1 ∷ 0 ∷ 4 ∷ 2 ∷ 0 ∷ 1 ∷ 0 ∷ 0 ∷ 2 ∷ 1 ∷ 1 ∷ 0 ∷ 10 ∷ 2 ∷ 2 ∷ 1 ∷ 0 ∷ 5 ∷ [])
+    ++ (3 ∷ 0 ∷ 1 ∷ 0 ∷ 3 ∷ 1 ∷ 2 ∷ 0 ∷ 0 ∷ 16 ∷ 0 ∷ 16 ∷ 0 ∷ [])
+
+-- `plan 3 2 1 4`, `node 0 1 0 0`, `node 1 0 0 10`, `node 2 0 0 5`, `taken 1`, `end 16 29`
+unfoldable pub halfwayText : List ℕ
+halfwayText =
+    (112 ∷ 108 ∷ 97 ∷ 110 ∷ 32 ∷ 51 ∷ 32 ∷ 50 ∷ 32 ∷ 49 ∷ 32 ∷ 52 ∷ 10 ∷ [])
+    ++ (110 ∷ 111 ∷ 100 ∷ 101 ∷ 32 ∷ 48 ∷ 32 ∷ 49 ∷ 32 ∷ 48 ∷ 32 ∷ 48 ∷ 10 ∷ [])
+    ++ (110 ∷ 111 ∷ 100 ∷ 101 ∷ 32 ∷ 49 ∷ 32 ∷ 48 ∷ 32 ∷ 48 ∷ 32 ∷ 49 ∷ 48 ∷ 10 ∷ [])
+    ++ (110 ∷ 111 ∷ 100 ∷ 101 ∷ 32 ∷ 50 ∷ 32 ∷ 48 ∷ 32 ∷ 48 ∷ 32 ∷ 53 ∷ 10 ∷ [])
+    ++ (116 ∷ 97 ∷ 107 ∷ 101 ∷ 110 ∷ 32 ∷ 49 ∷ 10 ∷ [])
+    ++ (101 ∷ 110 ∷ 100 ∷ 32 ∷ 49 ∷ 54 ∷ 32 ∷ 50 ∷ 57 ∷ 10 ∷ [])

@@ -4,6 +4,7 @@ use Prim.Native.Nat.{ℕ, _+_, _≤_}
 use mathlib.Core.Path.{_≡_}
 use mathlib.Core.List.{List, _++_}
 use lib.ListN.{length, drop}
+use Rattle.laws.specs.Lists.{Bytes}
 use Rattle.laws.specs.Choice.{ifLt, ifEq}
 use Rattle.network.specs.declared.Network.{Network}
 use Rattle.records.specs.declared.Planned.{Planned}
@@ -49,3 +50,5 @@ pub record Printed (bytes before : List ℕ) (answer : ℕ) (after : List ℕ) :
   pub count : answer ≡ writtenIn (length before) (textOf bytes)
   pub held : after ≡ filledBy before (textOf bytes)
   pub at-most-2048 : length (textOf bytes) ≤ 2048
+  -- what is handed in is bytes, as its type says
+  pub small : Bytes bytes

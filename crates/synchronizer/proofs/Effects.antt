@@ -5,7 +5,7 @@ use mathlib.Core.Path.{_≡_, refl, sym, _∙_, ap}
 use mathlib.Core.List.{List}
 use lib.ListN.{getD, set}
 use Rattle.actions.specs.declared.Does.{Does}
-use Rattle.queue.specs.Queue.{packet, ack, Queues, queues, pushed, popped, heardIn}
+use Rattle.queue.specs.Queue.{packet, ack, headOf, Queues, queues, pushed, popped, heardIn}
 use Rattle.synchronizer.specs.declared.State.{State}
 use Rattle.synchronizer.specs.Wires.{Wires}
 use Rattle.synchronizer.specs.After.{stateOf, meanHeard, effectIn}
@@ -40,10 +40,10 @@ module _ (w : Wires) (p d i : ℕ) (counts lens sorts loads slots values : List 
     unfolding effectIn
     sends-ack e = requeued slots lens′ sorts′ loads′ (pushed (queues lens sorts loads) d ack 0) e
 
-    pub takes-packet : (slots′ : List ℕ) → queues lens′ sorts′ loads′ ≡ popped (queues lens sorts loads) d → slots′ ≡ heardIn slots loads d i → stateOf counts lens′ sorts′ loads′ slots′ values ≡ effectIn w Does.TakesPacket p d i before
+    pub takes-packet : (slots′ : List ℕ) → queues lens′ sorts′ loads′ ≡ popped (queues lens sorts loads) d → slots′ ≡ heardIn slots (headOf lens sorts loads d) d i → stateOf counts lens′ sorts′ loads′ slots′ values ≡ effectIn w Does.TakesPacket p d i before
     unfolding effectIn
     takes-packet slots′ e h =
-        ap (λ x. stateOf counts lens′ sorts′ loads′ x values) h ∙ requeued (heardIn slots loads d i) lens′ sorts′ loads′ (popped (queues lens sorts loads) d) e
+        ap (λ x. stateOf counts lens′ sorts′ loads′ x values) h ∙ requeued (heardIn slots (headOf lens sorts loads d) d i) lens′ sorts′ loads′ (popped (queues lens sorts loads) d) e
 
     pub takes-ack : queues lens′ sorts′ loads′ ≡ popped (queues lens sorts loads) d → stateOf counts lens′ sorts′ loads′ slots values ≡ effectIn w Does.TakesAck p d i before
     unfolding effectIn

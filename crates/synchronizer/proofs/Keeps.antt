@@ -36,7 +36,8 @@ use Rattle.synchronizer.specs.Start.{freshWith, startOf}
 use Rattle.synchronizer.specs.Entry.{done, inRange, doneIn, doneOf, actedAs, recordIn, actIn, actOf, listFrom, listOf}
 use Rattle.synchronizer.specs.Valid.{validState, Sized}
 use Rattle.laws.proofs.Entries.{set-keeps-at, repeated-at}
-use Rattle.queue.specs.Queue.{packet, ack, Queues, queues, pushed, slotAt}
+use Rattle.queue.specs.declared.Head.{Head}
+use Rattle.queue.specs.Queue.{packet, ack, headOf, Queues, queues, pushed, slotAt, heardIn}
 use Rattle.ranges.specs.Fits.{usedBy, entryFits, loadFits, pastFits}
 use Rattle.synchronizer.proofs.States.{Message, a-packet, an-ack, entry-of, entry-most, sort-of, load-of, past-of, Passes, valid-passes, passes-valid, used-at-most-256}
 use Rattle.synchronizer.proofs.Turns.{refused-done, refused-act}
@@ -136,7 +137,7 @@ queue-names-two k q =
 
 module _ (net : Network) (v : validNetwork net ≡ true) (w : Wires) (p d i : ℕ) (s : State) (kept : Kept net s) (there : p < net .nodes) where
   effect-keeps : (does : Does) → (onQueue does ≡ true → d < net .links * 2) → Kept net (effectIn w does p d i s)
-  unfolding effectIn onQueue
+  unfolding effectIn onQueue heardIn
   effect-keeps does = at does
     where
       u : Queues
@@ -148,6 +149,11 @@ module _ (net : Network) (v : validNetwork net ≡ true) (w : Wires) (p d i : �
       pushes : (sort load : ℕ) → d < net .links * 2 → Message sort → loadFits sort load ≡ true → QueuesSound (net .links) (pushed u d sort load)
       pushes sort load = pushed-keeps (net .links) u (kept .queues) d sort load (valid-limits net v .at-most-128-links)
 
+      heard-keeps : (head : Head) → d < net .links * 2 → RestSound (net .links * 4) 512 (heardIn (s .slots) head d i)
+      heard-keeps (Head.Packet load) h = rest-keeps (net .links * 4) 512 (s .slots) (slotAt d i) load (kept .slots) (omega arith)
+      heard-keeps Head.Ack h = kept .slots
+      heard-keeps Head.Empty h = kept .slots
+
       at : (does : Does) → (onQueue does ≡ true → d < net .links * 2) → Kept net (effectIn w does p d i s)
       at Does.Starts h = kept
       at Does.Counts h = kept
@@ -155,7 +161,7 @@ module _ (net : Network) (v : validNetwork net ≡ true) (w : Wires) (p d i : �
           with-queues _ (pushes packet (getD (s .values) p 0) (h refl) (a-packet refl) (load-of (λ none. absurd (none refl)))) (s .slots) (kept .slots)
       at Does.SendsAck h = with-queues _ (pushes ack 0 (h refl) (an-ack refl) (load-of (λ _. refl))) (s .slots) (kept .slots)
       at Does.TakesPacket h =
-          with-queues _ (popped-keeps (net .links) u (kept .queues) d) _ (rest-keeps (net .links * 4) 512 (s .slots) (slotAt d i) (getD (s .loads) (d * 2) 0) (kept .slots) (omega (arith, h refl)))
+          with-queues _ (popped-keeps (net .links) u (kept .queues) d) _ (heard-keeps (headOf (s .lens) (s .sorts) (s .loads) d) (h refl))
       at Does.TakesAck h = with-queues _ (popped-keeps (net .links) u (kept .queues) d) (s .slots) (kept .slots)
       at Does.Means h =
           let mean : ℕ = meanHeard (w .lanes) (s .slots) (getD (w .neighbours) p 0) p (getD (s .values) p 0) i in

@@ -5,6 +5,7 @@ pub mod InTurn
 pub mod Keeps
 pub mod Ranges
 pub mod Rows
+pub mod Sizes
 pub mod States
 pub mod Taken
 pub mod Taking

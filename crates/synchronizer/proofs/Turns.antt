@@ -8,8 +8,8 @@ use lib.ListN.{length}
 use Rattle.laws.proofs.Choice.{ifLt-yes, ifLt-no, ifEq-yes, ifEq-no, eq-elim}
 use Rattle.actions.specs.declared.Kind.{Kind}
 use Rattle.actions.specs.declared.Record.{Record}
-use Rattle.actions.specs.Records.{readAt, bodyTable, readBy}
-use Rattle.actions.proofs.Records.{read-by-table, record-within}
+use Rattle.actions.specs.Records.{readAt}
+use Rattle.actions.proofs.Records.{record-within}
 use Rattle.synchronizer.specs.declared.State.{State}
 use Rattle.synchronizer.specs.declared.Done.{Done}
 use Rattle.synchronizer.specs.declared.Acted.{Acted}
@@ -18,10 +18,6 @@ use Rattle.synchronizer.specs.Wires.{Wires}
 use Rattle.synchronizer.specs.Answer.{answerIn}
 use Rattle.synchronizer.specs.After.{afterIn}
 use Rattle.synchronizer.specs.Entry.{done, acted, ran, doneIn, actedAs, recordIn, actIn, listFrom}
-
--- what the reader read by the table is what the definition reads
-pub read-so : (bodies bytes : List ℕ) (at : ℕ) (r : Record) → bodies ≡ bodyTable → r ≡ readBy bodies bytes at → r ≡ readAt bytes at
-read-so bodies bytes at r t e = e ∙ ap (λ b. readBy b bytes at) t ∙ read-by-table bytes at
 
 module _ (w : Wires) (s : State) (bytes : List ℕ) (at : ℕ) (r : Record) (so : r ≡ readAt bytes at) where
   read-as : (x : Record) → r ≡ x → recordIn w s x ≡ actIn w s bytes at

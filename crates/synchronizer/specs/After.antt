@@ -11,7 +11,7 @@ use Rattle.actions.specs.declared.Counter.{Counter}
 use Rattle.actions.specs.declared.Does.{Does}
 use Rattle.actions.specs.Kinds.{cellOf, countIn}
 use Rattle.actions.specs.Table.{doesOf}
-use Rattle.queue.specs.Queue.{packet, ack, Queues, queues, pushed, popped, slotAt, heardIn}
+use Rattle.queue.specs.Queue.{packet, ack, headOf, Queues, queues, pushed, popped, slotAt, heardIn}
 use Rattle.synchronizer.specs.declared.State.{State}
 use Rattle.synchronizer.specs.Wires.{Wires, wiresOf, laneIn}
 use Rattle.synchronizer.specs.Answer.{ownIn}
@@ -40,7 +40,7 @@ module _ (w : Wires) where
   -- "Delivery i puts it in the slot of i's parity"
   effectIn Does.TakesPacket p d i s =
       let u : Queues = popped (queues (s .lens) (s .sorts) (s .loads)) d in
-      stateOf (s .counts) (u .lens) (u .sorts) (u .loads) (heardIn (s .slots) (s .loads) d i) (s .values)
+      stateOf (s .counts) (u .lens) (u .sorts) (u .loads) (heardIn (s .slots) (headOf (s .lens) (s .sorts) (s .loads) d) d i) (s .values)
   effectIn Does.TakesAck p d i s =
       let u : Queues = popped (queues (s .lens) (s .sorts) (s .loads)) d in
       stateOf (s .counts) (u .lens) (u .sorts) (u .loads) (s .slots) (s .values)

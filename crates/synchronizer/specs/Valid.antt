@@ -8,7 +8,7 @@ use mathlib.Core.Logic.{_⊎_}
 use lib.ListN.{length, getD}
 use Rattle.network.specs.declared.Network.{Network}
 use Rattle.actions.specs.declared.Kind.{Kind}
-use Rattle.actions.specs.Kinds.{kinds, count, countIn}
+use Rattle.actions.specs.Kinds.{count, countIn}
 use Rattle.queue.specs.Queue.{packet, ack}
 use Rattle.ranges.specs.Fits.{usedBy, stateFits}
 use Rattle.synchronizer.specs.declared.State.{State}
@@ -46,7 +46,7 @@ pub record StateClauses (net : Network) (s : State) : Type 0 where
 
 -- what the struct's type says of its arrays: how long each is
 pub record Sized (s : State) : Type 0 where
-  pub counts : length (s .counts) ≡ length kinds * 256
+  pub counts : length (s .counts) ≡ 5120
   pub lens : length (s .lens) ≡ 256
   pub sorts : length (s .sorts) ≡ 512
   pub loads : length (s .loads) ≡ 512

@@ -64,10 +64,8 @@ pub(crate) fn by_record(
     ensures { λ r. ⌜ acted (r .answer) (r .used) (stateOf (now (counts .exit)) (now (lens .exit)) (now (sorts .exit)) (now (loads .exit)) (now (slots .exit)) (now (values .exit))) ≡ actOf net (stateOf (now (counts .entry)) (now (lens .entry)) (now (sorts .entry)) (now (loads .entry)) (now (slots .entry)) (now (values .entry))) (now (bytes .entry)) ⌝ }
 {
     if in_range(net, counts, lens, sorts, loads, slots, values) {
-        let bodies = actions::bodies();
         let lanes = lanes_of(&net.lowers, &net.uppers, net.links);
         return turn(
-            &bodies,
             bytes,
             0,
             net.nodes,

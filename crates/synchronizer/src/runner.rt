@@ -5,7 +5,6 @@ use actions::read;
 ghost use mathlib.Core.Path.{_≡_};
 ghost use Prim.Native.Nat.{suc, _≤_};
 ghost use lib.ListN.{length};
-ghost use Rattle.actions.specs.Records.{bodyTable};
 ghost use Rattle.synchronizer.specs.Wires.{Below64, wires};
 ghost use Rattle.synchronizer.specs.After.{stateOf};
 ghost use Rattle.synchronizer.specs.Entry.{acted, ran, actIn, listFrom};
@@ -17,7 +16,6 @@ pub struct Did {
 }
 
 pub(crate) fn turn<'a>(
-    bodies: &[u8; 20],
     bytes: &[u8],
     at: usize,
     nodes: usize,
@@ -34,10 +32,10 @@ pub(crate) fn turn<'a>(
     slots: &mut [u16; 512],
     values: &mut [u16; 64],
 ) -> Did
-    requires { ⌜ (nodes ≤ 64) × Below64 (now parents) nodes × (now bodies ≡ bodyTable) ⌝ }
+    requires { ⌜ (nodes ≤ 64) × Below64 (now parents) nodes ⌝ }
     ensures { λ r. ⌜ acted (r .answer) (r .used) (stateOf (now (counts .exit)) (now (lens .exit)) (now (sorts .exit)) (now (loads .exit)) (now (slots .exit)) (now (values .exit))) ≡ actIn (wires nodes rounds (now (parents .entry)) (now (lanes .entry)) (now (neighbours .entry)) (now (children .entry)) (now (preferred .entry))) (stateOf (now (counts .entry)) (now (lens .entry)) (now (sorts .entry)) (now (loads .entry)) (now (slots .entry)) (now (values .entry))) (now (bytes .entry)) at ⌝ }
 {
-    let found = read(bodies, bytes, at);
+    let found = read(bytes, at);
     match found {
         Record::Unknown => Did {
             answer: 11,
@@ -85,7 +83,6 @@ pub struct Ended {
 }
 
 pub(crate) fn go_through<'a>(
-    bodies: &[u8; 20],
     bytes: &[u8],
     nodes: usize,
     rounds: u16,
@@ -101,14 +98,13 @@ pub(crate) fn go_through<'a>(
     slots: &mut [u16; 512],
     values: &mut [u16; 64],
 ) -> Ended
-    requires { ⌜ (nodes ≤ 64) × Below64 (now parents) nodes × (now bodies ≡ bodyTable) ⌝ }
+    requires { ⌜ (nodes ≤ 64) × Below64 (now parents) nodes ⌝ }
     ensures { λ r. ⌜ ran (r .answer) (r .place) (r .taken) (stateOf (now (counts .exit)) (now (lens .exit)) (now (sorts .exit)) (now (loads .exit)) (now (slots .exit)) (now (values .exit))) ≡ listFrom (suc (length (now (bytes .entry)))) (wires nodes rounds (now (parents .entry)) (now (lanes .entry)) (now (neighbours .entry)) (now (children .entry)) (now (preferred .entry))) (stateOf (now (counts .entry)) (now (lens .entry)) (now (sorts .entry)) (now (loads .entry)) (now (slots .entry)) (now (values .entry))) (now (bytes .entry)) 0 0 ⌝ }
 {
     let mut at = 0;
     let mut taken = 0;
     while at < bytes.len() {
         let did = turn(
-            bodies,
             bytes,
             at,
             nodes,

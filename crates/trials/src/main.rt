@@ -1,6 +1,7 @@
 // Trials of the bench against the second simulator. Each side gets the same bytes, networks, states and buffers, and every answer, place,
 // count, value, state and buffer that comes back is compared. What is tried is drawn from a seed, so that every run tries the same.
 mod known;
+mod planted;
 mod reading;
 mod spoilt;
 
@@ -70,6 +71,7 @@ fn trial(tally: &mut Tally, dice: &mut u64, t: usize) {
 }
 
 fn main() {
+    planted::try_planted();
     let mut tally = [0usize; 40];
     let mut dice = SEED;
     known::try_known(&mut tally, &mut dice);

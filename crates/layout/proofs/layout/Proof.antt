@@ -10,7 +10,7 @@ use Rattle.network.specs.Sets.{withSets}
 use Rattle.records.specs.declared.Planned.{Planned}
 use Rattle.records.specs.Numbers.{accepted}
 use Rattle.records.specs.Reader.{listsOf}
-use Rattle.records.specs.Keeps.{Bytes}
+use Rattle.laws.specs.Lists.{Bytes}
 use Rattle.links.specs.Links.{nodesOf}
 use Rattle.joined.specs.Joined.{firstUnjoined}
 use Rattle.layout.specs.Layout.{wiresOf, LaysOut, laidOver}

@@ -42,7 +42,7 @@ add-run-lines c =
     let ran = c .before .before .before .before .before .before .before in
     let begun = ran .before .before .before in
     let start = begun .before .before .before .before in
-    omega (arith, place-within (start .args .net) (start .args .bytes .now) (start .args .from) (ran .run .result) (begun .start .result) (begun .start .ensures) (ran .run .ensures) (start .pre .0), start .good .1 .0)
+    omega (arith, place-within (start .args .net) (start .args .bytes .now) (start .args .from) (ran .run .result) (begun .start .result) (begun .start .ensures) (ran .run .ensures .0) (start .pre .0), start .good .1 .0)
 
 returns : tie.Need-returns
 returns c =
@@ -50,7 +50,7 @@ returns c =
     let ran = wrote .before .before .before .before .before .before .before .before in
     let begun = ran .before .before .before in
     let start = begun .before .before .before .before in
-    let is = text-is (start .args .net) (start .args .bytes .now) (start .args .from) (ran .run .result) (begun .start .result) (begun .start .ensures) (ran .run .ensures) (begun .before .count .result) (begun .before .count .ensures) in (
+    let is = text-is (start .args .net) (start .args .bytes .now) (start .args .from) (ran .run .result) (begun .start .result) (begun .start .ensures) (ran .run .ensures .0) (begun .before .count .result) (begun .before .count .ensures) in (
       subst (λ text. Put (start .args .page .now) 0 text (wrote .run-lines .result) (wrote .run-lines .last .0)) is (wrote .run-lines .ensures .0),
       subst (λ text. length text ≤ 2048) is (wrote .run-lines .ensures .1),
     )

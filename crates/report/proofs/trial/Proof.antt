@@ -1,5 +1,6 @@
 -- `trial`: the text is never longer than the page, so the page holds it whole, and whole it is handed over or not at all.
 -- Assumes nothing.
+use native.Mathlib.Omega.{arith}
 use mathlib.Core.Path.{sym, _∙_, ap}
 use borrow.Author.Needs.{needs}
 use lib.ListN.{length}
@@ -17,7 +18,7 @@ returns c =
     let handed = c .before .before in
     let wrote = handed .before .before .before .before .write-page .ensures in
     let shown = rw (stands-there (wrote .0) (wrote .1)) at (handed .whole .ensures) in
-    record { count = shown .0; held = shown .1; at-most-2048 = wrote .1 }
+    record { count = shown .0; held = shown .1; at-most-2048 = wrote .1; small = λ k. omega (arith, c .before .before .before .before .before .before .before .before .before .shared-slice-known .given k) }
 
 pub trial-spec : {M : Type 1} → statement M
 trial-spec =

@@ -6,9 +6,9 @@ use mathlib.Core.Path.{_≡_, sym, _∙_, ap}
 use mathlib.Core.List.{List}
 use borrow.Author.Needs.{needs}
 use lib.ListN.{length}
+use Rattle.laws.specs.Lists.{Bytes}
 use Rattle.laws.proofs.Choice.{ifLt-yes, ifLt-no, ifEq-yes, ifEq-no}
 use Rattle.records.specs.declared.Planned.{Planned}
-use Rattle.records.specs.Keeps.{Bytes}
 use Rattle.plan.specs.Checks.{planOf}
 use Rattle.report.specs.Lines.{endLine}
 use Rattle.report.specs.Report.{listText, plannedText, textOf}
@@ -49,7 +49,7 @@ returns-2 c =
     let read = c .before .before .before .before .before in
     let bytes = read .before .before .before .before .args .bytes .now in
     let planned = read .read-plan .result in
-    let is = refused bytes (omega (arith, read .before .if1 .left)) planned (read .read-plan .ensures) (c .before .before .before .before .if2 .taken) in
+    let is = refused bytes (omega (arith, read .before .if1 .left)) planned (read .read-plan .ensures .0) (c .before .before .before .before .if2 .taken) in
     (rw is (c .before .before .end-line2 .ensures), rw is (omega (arith, end-short (planned .number) (planned .place) (omega (arith, read .read-plan .ok)) (omega (arith, read .read-plan .ok)))))
 
 after-plan-requires : tie.Need-after-plan-requires
@@ -58,7 +58,7 @@ after-plan-requires c κs =
     let known = read .before .before .before in
     let bytes = known .before .args .bytes .now in
     let small : Bytes bytes = λ k. omega (arith, known .shared-slice-known .given k) in
-    let is = read .read-plan .ensures in
+    let is = read .read-plan .ensures .0 in
     let none : planOf bytes .number ≡ 0 = ap (λ r. r .number) (sym is) ∙ c .before .before .if2 .left in
     (rw is (plan-ends bytes small none), rw is (at-most-64 bytes small none))
 
@@ -66,7 +66,7 @@ returns-3 : tie.Need-returns-3
 returns-3 c =
     let read = c .before .before .before .before .before .before in
     let bytes = read .before .before .before .before .args .bytes .now in
-    let is = taken bytes (omega (arith, read .before .if1 .left)) (read .read-plan .result) (read .read-plan .ensures) (c .before .before .before .before .before .if2 .left) in
+    let is = taken bytes (omega (arith, read .before .if1 .left)) (read .read-plan .result) (read .read-plan .ensures .0) (c .before .before .before .before .before .if2 .left) in
     (rw is (c .before .before .after-plan .ensures .0), rw is (c .before .before .after-plan .ensures .1))
 
 pub write-page-spec : {M : Type 1} → statement M

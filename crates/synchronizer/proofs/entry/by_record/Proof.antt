@@ -25,20 +25,20 @@ in-its-range c = sym (c .before .in-range .ensures) ∙ c .if1 .taken
 
 lanes-of-requires : tie.Need-lanes-of-requires
 lanes-of-requires c κs =
-    let t = c .before .before .before .before in
+    let t = c .before .before .before in
     let ok = in-its-range t in
     (links-fit (network t) (state t) ok, lowers-fit (network t) (state t) ok, uppers-fit (network t) (state t) ok)
 
 turn-requires : tie.Need-turn-requires
 turn-requires c κs =
-    let t = c .before .before .before .before .before .before .before .before .before .before .before .before .before .before .before .before .before .before in
+    let t = c .before .before .before .before .before .before .before .before .before .before .before .before .before .before .before .before in
     let ok = in-its-range t in
-    (nodes-fit (network t) (state t) ok, parents-fit (network t) (state t) ok, c .before .before .before .before .before .before .before .before .before .before .before .before .before .before .before .before .before .bodies .ensures)
+    (nodes-fit (network t) (state t) ok, parents-fit (network t) (state t) ok)
 
 returns : tie.Need-returns
 returns c =
-    let t = c .before .before .before .before .before .before .before .before .before .before .before .before .before .before .before .before .before .before .before in
-    action-answers (network t) (state t) _ (c .before .before .before .before .before .before .before .before .before .before .before .before .before .before .lanes-of .ensures) (in-its-range t) _ _ (c .turn .ensures)
+    let t = c .before .before .before .before .before .before .before .before .before .before .before .before .before .before .before .before .before in
+    action-answers (network t) (state t) _ (c .before .before .before .before .before .before .before .before .before .before .before .before .before .lanes-of .ensures) (in-its-range t) _ _ (c .turn .ensures)
 
 returns-2 : tie.Need-returns-2
 returns-2 c =
@@ -46,4 +46,4 @@ returns-2 c =
     action-17 (a .t1) (stateOf (a .counts .now) (a .lens .now) (a .sorts .now) (a .loads .now) (a .slots .now) (a .values .now)) (sym (c .before .in-range .ensures) ∙ c .if1 .left) _
 
 pub by-record-spec : {M : Type 1} → statement M
-by-record-spec = tie.close (tie.spec (λ c κs. search needs) (λ c κs. search needs) lanes-of-requires turn-requires returns returns-2)
+by-record-spec = tie.close (tie.spec (λ c κs. search needs) lanes-of-requires turn-requires returns returns-2)

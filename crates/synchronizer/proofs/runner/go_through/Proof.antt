@@ -12,10 +12,10 @@ use Rattle.synchronizer.proofs.runner.go_through.Statement.{statement}
 use Rattle.synchronizer.proofs.runner.go_through.Tie as tie
 
 abbrev Inv-loop : tie.InvT-loop
-Inv-loop bodies bytes nodes rounds parents lanes neighbours children preferred counts₀ lens₀ sorts₀ loads₀ slots₀ values₀ at₀ taken₀ counts lens sorts loads slots values at taken = Going (wires nodes rounds parents lanes neighbours children preferred) (stateOf counts₀ lens₀ sorts₀ loads₀ slots₀ values₀) bytes (stateOf counts lens sorts loads slots values) at taken
+Inv-loop bytes nodes rounds parents lanes neighbours children preferred counts₀ lens₀ sorts₀ loads₀ slots₀ values₀ at₀ taken₀ counts lens sorts loads slots values at taken = Going (wires nodes rounds parents lanes neighbours children preferred) (stateOf counts₀ lens₀ sorts₀ loads₀ slots₀ values₀) bytes (stateOf counts lens sorts loads slots values) at taken
 
 abbrev μ-loop : tie.MeasureT-loop
-μ-loop bodies bytes nodes rounds parents lanes neighbours children preferred counts₀ lens₀ sorts₀ loads₀ slots₀ values₀ at₀ taken₀ counts lens sorts loads slots values at taken = length bytes - at
+μ-loop bytes nodes rounds parents lanes neighbours children preferred counts₀ lens₀ sorts₀ loads₀ slots₀ values₀ at₀ taken₀ counts lens sorts loads slots values at taken = length bytes - at
 
 zero : (c : tie.After-struct-known Inv-loop μ-loop) → c .before .before .turn .result .answer ≡ 0
 zero c = omega (arith, c .before .if1 .left)

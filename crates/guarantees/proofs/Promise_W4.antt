@@ -6,24 +6,28 @@ use mathlib.Core.Path.{_≡_, refl, sym, subst}
 use mathlib.Core.Logic.{inl, inr}
 use mathlib.Core.List.{List}
 use lib.ListN.{length}
-use contract.Lifetimes.{Lfts}
 use denote.Ref.{now}
-use denote.Triple.Clauses.{AtExit}
-use borrow.Fn.Kinds.{Dens, resT, endedOf}
-use Rattle.records.specs.Keeps.{Bytes, BreaksAt, bytes-end, unknown, short, whole, BreaksFirst, order, number, range}
+use Rattle.laws.specs.Lists.{Bytes}
+use Rattle.records.specs.Keeps.{BreaksAt, bytes-end, unknown, short, whole, BreaksFirst, order, number, range}
 use Rattle.records.specs.Plan.{Plan}
 use Rattle.records.specs.declared.Record.{Record}
 use Rattle.layout.specs.declared.Laid.{Laid}
-use Rattle.layout.specs.Answers.{LayoutAnswer, by-record, by-10, by-22, by-23, laid-out}
+use Rattle.layout.specs.Answers.{LayoutAnswer, by-record, by-10, by-22, by-23, laid-out, Written}
 use Rattle.layout.specs.Layout.{layoutOf, laidIn}
 use Rattle.layout.proofs.Answers.{layout-exactly}
 use Rattle.layout.proofs.Buffer.{laid-refused, laid-so}
+use Rattle.layout.proofs.Written.{written-plan}
 use Rattle.layout.proofs.Worked.{Comes, each-comes}
 use Rattle.layout.proofs.layout.Kinds as layout-kinds
 use Rattle.layout.proofs.layout.Reads as layout-reads
 use Rattle.teravulk.proofs.teravulk_layout.Kinds as teravulk-layout-kinds
 use Rattle.teravulk.proofs.teravulk_layout.Reads as teravulk-layout-reads
 use Rattle.guarantees.specs.Among.{Among}
+use Rattle.plan.specs.Accepted.{planNetwork}
+use Rattle.synchronizer.specs.declared.State.{State}
+use Rattle.guarantees.specs.Promise.{Reachable, Demand3}
+use Rattle.guarantees.proofs.Promise.{Meets}
+use Rattle.guarantees.proofs.Promised.{reached-demand-3}
 use Rattle.guarantees.specs.Promise_W4.{LayoutPromise, layoutNumbers}
 
 -- ---- the promise
@@ -48,18 +52,22 @@ layout-promise s depth out r after e f small =
     (subst (λ (x : Laid). LayoutPromise s depth out (x .number) (x .place) (laidIn s depth out)) (sym e) (layout-promised s small depth out))
 
 pub layout :
-    (κs : Lfts 2) (a : Dens κs layout-kinds.ps) (x : resT layout-kinds.r κs .Denot) (t : AtExit (endedOf 2 layout-kinds.ps layout-kinds.r) κs)
-    → layout-reads.Post κs a x t
-    → LayoutPromise (now (a .0)) (a .1 .0) (now (a .1 .1 .0)) (x .number) (x .place) (now (t .1 .1 .0))
+    Meets _ layout-kinds.ps layout-kinds.r layout-reads.Post (λ κs a x t. LayoutPromise (now (a .0)) (a .1 .0) (now (a .1 .1 .0)) (x .number) (x .place) (now (t .1 .1 .0)))
 layout κs a x t p = layout-promise (now (a .0)) (a .1 .0) (now (a .1 .1 .0)) x (now (t .1 .1 .0)) (p .0) (p .1 .0) (p .1 .1)
 
 pub teravulk-layout :
-    (κs : Lfts 3) (a : Dens κs teravulk-layout-kinds.ps) (x : resT teravulk-layout-kinds.r κs .Denot) (t : AtExit (endedOf 3 teravulk-layout-kinds.ps teravulk-layout-kinds.r) κs)
-    → teravulk-layout-reads.Post κs a x t
-    → LayoutPromise (now (a .0)) (a .1 .0) (now (a .1 .1 .0)) x (now (t .1 .1 .1 .0)) (now (t .1 .1 .0))
+    Meets _ teravulk-layout-kinds.ps teravulk-layout-kinds.r teravulk-layout-reads.Post (λ κs a x t. LayoutPromise (now (a .0)) (a .1 .0) (now (a .1 .1 .0)) x (now (t .1 .1 .1 .0)) (now (t .1 .1 .0)))
 teravulk-layout κs a x t p =
     subst (λ (y : ℕ × ℕ × List ℕ). LayoutPromise (now (a .0)) (a .1 .0) (now (a .1 .1 .0)) (y .0) (y .1) (y .2)) (λ i. (sym (p .0) i, sym (p .1 .0) i, sym (p .1 .1 .0) i))
     (layout-promised (now (a .0)) (p .1 .1 .1) (a .1 .0) (now (a .1 .1 .0)))
+
+-- ---- demand 3 holds of what is laid out
+
+pub laid-demand-3 :
+    {s : List ℕ} {depth : ℕ} {before : List ℕ} {n : ℕ} {after : List ℕ} (W : Written s depth before n after) (st : State)
+    → Reachable (planNetwork (W .laid-plan)) st
+    → Demand3 (planNetwork (W .laid-plan)) st
+laid-demand-3 W = reached-demand-3 (planNetwork (W .laid-plan)) (written-plan W)
 
 -- ---- its numbers
 
