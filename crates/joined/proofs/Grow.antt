@@ -18,9 +18,8 @@ use Rattle.nodeset.proofs.Marks.{inserted-is-in, inserted-fits, empty-has-none,
 use Rattle.network.specs.Sets.{Ends, rising, falling}
 use Rattle.links.specs.Links.{Linked}
 use Rattle.joined.specs.Joined.{follow, across, pass, joinedMarks, Joined, start, along}
-use Rattle.joined.proofs.Folds.{fold-gains, inserted-keeps, in-inserted, inserted-already}
+use Rattle.joined.proofs.Folds.{fold-gains, inserted-keeps, in-inserted, inserted-already, count-inserted}
 use Rattle.links.proofs.Count.{count-at-most}
-use Rattle.joined.proofs.Room.{count-inserted}
 
 -- ---- one mark along a link
 

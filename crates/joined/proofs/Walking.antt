@@ -1,80 +1,89 @@
--- Why the walk with a list finds the joined nodes. Whatever is seen is joined to node 0; whatever is seen and not on the list is done, so that
--- all that is linked to it is seen too. When the list is empty every seen node is done: the seen nodes are closed under links, and so they
--- are all the joined nodes. A node is put on the list when it is marked, and never again, so the walk ends.
+-- Why the walk with two sets finds the joined nodes. Whatever is reached is joined to node 0; whatever is reached and no longer to visit is done, so
+-- that all that is linked to it is reached too. When no node is left to visit every reached node is done: the reached nodes are closed under links,
+-- and so they are all the joined nodes. A node becomes one to visit when it is reached, and never again, so the walk ends. All of this holds in
+-- whatever order the nodes are visited.
 -- Assumes nothing.
 use Prim.Native.Nat.{ℕ, _+_, _-_, _*_, _^_, _<_, _≤_}
 use native.Mathlib.Nat.{le-refl, le-trans}
 use native.Mathlib.Omega.{arith}
-use native.Mathlib.Decide.{decLt}
+use native.Mathlib.Decide.{ℕ-discrete}
 use mathlib.Core.Path.{_≡_, refl, sym, _∙_, ap, subst}
 use mathlib.Core.Logic.{_⊎_, inl, inr, ⊎-elim}
 use mathlib.Core.Bool.{true, false}
 use mathlib.Core.List.{List}
-use lib.ListN.{length, getD, set, replicate, length-set, length-replicate, getD-replicate}
-use lib.Seq.{getD-set-same, getD-set-other}
+use lib.ListN.{getD}
 use Rattle.laws.specs.Choice.{ifB, ifEq}
 use Rattle.laws.proofs.Choice.{lt-elim, b-elim, eq-elim, ifLt-yes, true-not-false}
 use Rattle.laws.proofs.Below.{fold-keeps}
-use Rattle.nodeset.specs.Marks.{member, inserted, sizeOf}
-use Rattle.nodeset.proofs.Marks.{inserted-is-in, inserted-fits, empty-has-none}
+use Rattle.nodeset.specs.Marks.{member, inserted, removed, sizeOf}
+use Rattle.nodeset.proofs.Marks.{inserted-is-in, removed-is-out, removed-keeps-others, empty-has-none}
+use Rattle.nodeset.proofs.Members.{size-inserted, size-rest, size-at-most-64}
 use Rattle.network.specs.Sets.{Ends, rising, falling}
 use Rattle.links.specs.Links.{Linked}
-use Rattle.links.proofs.Count.{count-at-most}
 use Rattle.joined.specs.declared.Walk.{Walk}
 use Rattle.joined.specs.Joined.{joinedMarks, Joined, start, along}
-use Rattle.joined.specs.Walk.{listed, metOf, crossedOf, visitedOf, takenOf}
-use Rattle.joined.proofs.Folds.{fold-gains, inserted-keeps, in-inserted}
-use Rattle.joined.proofs.Room.{Room, room-left, listed-room, count-inserted}
+use Rattle.joined.specs.Walk.{walk, marked, metOf, crossedOf, visitedOf, takenOf}
+use Rattle.joined.proofs.Folds.{fold-gains, inserted-keeps, in-inserted, size-at-most-one-more}
 use Rattle.joined.proofs.Grow.{marks-unique}
 
-abbrev pub Seen : Walk → ℕ → Type 0
-Seen w p = member (w .seen .marks) p ≡ true
+-- p is reached
+abbrev pub Reached : Walk → ℕ → Type 0
+Reached w p = member (w .reached .marks) p ≡ true
 
--- the next to visit
-abbrev pub lastOf : Walk → ℕ
-lastOf w = getD (w .todo) (w .len - 1) 0
-
--- p is one of the nodes still to visit
-pub record OnList (w : Walk) (p : ℕ) : Type 0 where
-  pub place : ℕ
-  pub below : place < w .len
-  pub stands : getD (w .todo) place 0 ≡ p
+-- p is still to visit
+abbrev pub ToVisit : Walk → ℕ → Type 0
+ToVisit w p = member (w .todo .marks) p ≡ true
 
 -- no node is being visited
 abbrev pub Idle : ℕ → Type 0
 Idle p = ⊥
 
--- the walk starts with node 0 seen and on the list
+-- the walk starts with node 0 reached and still to visit
 abbrev pub startOf : Walk
-startOf = record { seen = record { marks = inserted 0 0 }; todo = replicate 64 0; len = 1 }
+startOf = walk (inserted 0 0) (inserted 0 0)
 
--- what lies ahead of the walk: the nodes on the list, and twice those not seen yet
+-- what lies ahead of the walk: the nodes still to visit, and twice those not reached yet
 abbrev pub ahead : Walk → ℕ
-ahead w = 2 * (64 - sizeOf (w .seen .marks)) + w .len
+ahead w = 2 * (64 - sizeOf (w .reached .marks)) + sizeOf (w .todo .marks)
+
+-- ---- the two choices that a step of the walk makes
+
+module _ (P : Walk → Type 0) (nodes : ℕ) (w : Walk) where
+  met-elim : (q : ℕ) → P w → (q < nodes → member (w .reached .marks) q ≡ false → P (marked q w)) → P (metOf nodes q w)
+  unfolding metOf
+  met-elim q same more =
+      lt-elim P q nodes (ifB (member (w .reached .marks) q) w (marked q w)) w
+      (λ h. b-elim P (member (w .reached .marks) q) w (marked q w) (λ _. same) (more h))
+      (λ _. same)
+
+  crossed-elim :
+      (p a b : ℕ) → (a ≡ p → P (metOf nodes b w)) → ((a ≡ p → ⊥) → b ≡ p → P (metOf nodes a w)) → ((a ≡ p → ⊥) → (b ≡ p → ⊥) → P w)
+      → P (crossedOf nodes p a b w)
+  unfolding crossedOf
+  crossed-elim p a b upwards downwards neither =
+      eq-elim P a p (metOf nodes b w) (ifEq b p (metOf nodes a w) w) upwards (λ d. eq-elim P b p (metOf nodes a w) w (downwards d) (neither d))
+
+-- ---- how the walk stands
 
 module _ (lowers uppers : List ℕ) (links nodes : ℕ) where
-  -- every node that is linked to p is seen
+  -- every node that is linked to p is reached
   abbrev pub DoneIn : Walk → ℕ → Type 0
-  DoneIn w p = (q : ℕ) → Linked lowers uppers links p q → q < nodes → Seen w q
+  DoneIn w p = (q : ℕ) → Linked lowers uppers links p q → q < nodes → Reached w q
 
   -- how the walk stands while the busy nodes are visited
   pub record WalkingIn (Busy : ℕ → Type 0) (w : Walk) : Type 0 where
     -- the walk starts at node 0
-    pub zero-seen : Seen w 0
-    -- whatever is seen is joined to node 0
-    pub seen-joined : (p : ℕ) → Seen w p → Joined lowers uppers links nodes p
-    -- whatever is on the list is seen
-    pub list-seen : (k : ℕ) → k < w .len → Seen w (getD (w .todo) k 0)
-    -- whatever is seen is being visited, still to visit, or done
-    pub accounted : (p : ℕ) → Seen w p → Busy p ⊎ (OnList w p ⊎ DoneIn w p)
-    -- no node is on the list twice
-    pub room : Room w
-    pub entries : length (w .todo) ≡ 64
-    pub marks-fit : w .seen .marks < 2 ^ 64
+    pub zero-reached : Reached w 0
+    -- whatever is reached is joined to node 0
+    pub reached-joined : (p : ℕ) → Reached w p → Joined lowers uppers links nodes p
+    -- whatever is still to visit is reached
+    pub todo-reached : (p : ℕ) → ToVisit w p → Reached w p
+    -- whatever is reached is being visited, still to visit, or done
+    pub accounted : (p : ℕ) → Reached w p → Busy p ⊎ (ToVisit w p ⊎ DoneIn w p)
 
-  -- one turn: the last of the list is taken off and visited
-  abbrev pub turnedOf : Walk → Walk
-  turnedOf w = visitedOf lowers uppers links nodes (lastOf w) (takenOf w)
+  -- one turn: p, which was still to visit, is visited
+  abbrev pub turnedOf : ℕ → Walk → Walk
+  turnedOf p w = visitedOf lowers uppers links nodes p (takenOf p w)
 
 module _ (lowers uppers : List ℕ) (links nodes : ℕ) (fits : nodes ≤ 64) where
   abbrev Done : Walk → ℕ → Type 0
@@ -83,54 +92,39 @@ module _ (lowers uppers : List ℕ) (links nodes : ℕ) (fits : nodes ≤ 64) wh
   abbrev Walking : (ℕ → Type 0) → Walk → Type 0
   Walking = WalkingIn lowers uppers links nodes
 
-  abbrev turned : Walk → Walk
+  abbrev turned : ℕ → Walk → Walk
   turned = turnedOf lowers uppers links nodes
 
   module _ (Busy : ℕ → Type 0) where
-    -- one more node is seen and put on the list
-    listed-walking : (q : ℕ) (w : Walk) → q < 64 → member (w .seen .marks) q ≡ false → Joined lowers uppers links nodes q → Walking Busy w → Walking Busy (listed q w)
-    listed-walking q w h o j x =
+    -- one more node is reached
+    marked-walking : (q : ℕ) (w : Walk) → q < 64 → Joined lowers uppers links nodes q → Walking Busy w → Walking Busy (marked q w)
+    marked-walking q w h j x =
         record {
-          zero-seen = keeps 0 (x .zero-seen);
-          seen-joined = λ p i. ⊎-elim (λ e. subst (Joined lowers uppers links nodes) (sym e) j) (x .seen-joined p) (in-inserted (w .seen .marks) q p i);
-          list-seen = λ k l. on-list k l (decLt k (w .len));
-          accounted = λ p i. ⊎-elim (λ e. inr (inl (record { place = w .len; below = omega arith; stands = last ∙ sym e }))) (λ s. still p (x .accounted p s)) (in-inserted (w .seen .marks) q p i);
-          room = listed-room q w h o (x .room);
-          entries = length-set (w .todo) (w .len) q ∙ x .entries;
-          marks-fit = inserted-fits (w .seen .marks) q (x .marks-fit);
+          zero-reached = keeps 0 (x .zero-reached);
+          reached-joined = λ p i. ⊎-elim (λ e. subst (Joined lowers uppers links nodes) (sym e) j) (x .reached-joined p) (in-inserted (w .reached .marks) q p i);
+          todo-reached =
+              λ p l. ⊎-elim (λ e. subst (Reached (marked q w)) (sym e) (inserted-is-in (w .reached .marks) q h)) (λ m. keeps p (x .todo-reached p m)) (in-inserted (w .todo .marks) q p l);
+          accounted =
+              λ p i. ⊎-elim (λ e. inr (inl (subst (ToVisit (marked q w)) (sym e) (inserted-is-in (w .todo .marks) q h)))) (λ s. still p (x .accounted p s))
+              (in-inserted (w .reached .marks) q p i);
         }
       where
-        keeps : (p : ℕ) → Seen w p → Seen (listed q w) p
-        keeps p = inserted-keeps (w .seen .marks) q p
+        keeps : (p : ℕ) → Reached w p → Reached (marked q w) p
+        keeps p = inserted-keeps (w .reached .marks) q p
 
-        last : getD (set (w .todo) (w .len) q) (w .len) 0 ≡ q
-        last = getD-set-same (w .todo) (w .len) q 0 (omega (arith, x .entries, room-left (w .seen .marks) q (w .len) h o (x .room)))
-
-        others : (k : ℕ) → k < w .len → getD (set (w .todo) (w .len) q) k 0 ≡ getD (w .todo) k 0
-        others k l = getD-set-other (w .todo) (w .len) k q 0 (λ e. omega arith)
-
-        on-list : (k : ℕ) → k < w .len + 1 → Dec (k < w .len) → Seen (listed q w) (getD (set (w .todo) (w .len) q) k 0)
-        on-list k l (yes m) = subst (Seen (listed q w)) (sym (others k m)) (keeps (getD (w .todo) k 0) (x .list-seen k m))
-        on-list k l (no m) =
-            let e : w .len ≡ k = omega arith in
-            subst (λ i. Seen (listed q w) (getD (set (w .todo) (w .len) q) i 0)) e (subst (Seen (listed q w)) (sym last) (inserted-is-in (w .seen .marks) q h))
-
-        still : (p : ℕ) → Busy p ⊎ (OnList w p ⊎ Done w p) → Busy p ⊎ (OnList (listed q w) p ⊎ Done (listed q w) p)
+        still : (p : ℕ) → Busy p ⊎ (ToVisit w p ⊎ Done w p) → Busy p ⊎ (ToVisit (marked q w) p ⊎ Done (marked q w) p)
         still p (inl b) = inl b
-        still p (inr (inl y)) =
-            inr (inl (record { place = y .place; below = omega (arith, y .below); stands = others (y .place) (y .below) ∙ y .stands }))
+        still p (inr (inl y)) = inr (inl (inserted-keeps (w .todo .marks) q p y))
         still p (inr (inr d)) = inr (inr (λ r l i. keeps r (d r l i)))
 
     met-walking : (q : ℕ) (w : Walk) → (q < nodes → Joined lowers uppers links nodes q) → Walking Busy w → Walking Busy (metOf nodes q w)
-    unfolding metOf
-    met-walking q w j x =
-        lt-elim (Walking Busy) q nodes (ifB (member (w .seen .marks) q) w (listed q w)) w (λ h. b-elim (Walking Busy) (member (w .seen .marks) q) w (listed q w) (λ _. x) (λ o. listed-walking q w (omega arith) o (j h) x)) (λ _. x)
+    met-walking q w j x = met-elim (Walking Busy) nodes w q x (λ h _. marked-walking q w (omega arith) (j h) x)
 
     crossed-walking : (p l : ℕ) (w : Walk) → l < links → Joined lowers uppers links nodes p → Walking Busy w → Walking Busy (crossedOf nodes p (getD lowers l 0) (getD uppers l 0) w)
-    unfolding crossedOf
     crossed-walking p l w h j x =
-        eq-elim (Walking Busy) a p (metOf nodes b w) (ifEq b p (metOf nodes a w) w) (λ e. met-walking b w (along j (record { link = l; below = h; ends = rising e refl })) x)
-        (λ _. eq-elim (Walking Busy) b p (metOf nodes a w) w (λ e. met-walking a w (along j (record { link = l; below = h; ends = falling refl e })) x) (λ _. x))
+        crossed-elim (Walking Busy) nodes w p a b (λ e. met-walking b w (along j (record { link = l; below = h; ends = rising e refl })) x)
+        (λ _ e. met-walking a w (along j (record { link = l; below = h; ends = falling refl e })) x)
+        (λ _ _. x)
       where
         a : ℕ
         a = getD lowers l 0
@@ -143,30 +137,27 @@ module _ (lowers uppers : List ℕ) (links nodes : ℕ) (fits : nodes ≤ 64) wh
     visited-walking p w j x =
         fold-keeps (Walking Busy) (λ l. crossedOf nodes p (getD lowers l 0) (getD uppers l 0)) w links x (λ l h y. crossed-walking p l y h j)
 
-  -- ---- a visit sees all that is linked to the node
+  -- ---- a visit reaches all that is linked to the node
 
-  met-keeps : (q k : ℕ) (w : Walk) → Seen w k → Seen (metOf nodes q w) k
-  unfolding metOf
-  met-keeps q k w i =
-      lt-elim (λ y. Seen y k) q nodes (ifB (member (w .seen .marks) q) w (listed q w)) w (λ _. b-elim (λ y. Seen y k) (member (w .seen .marks) q) w (listed q w) (λ _. i) (λ _. inserted-keeps (w .seen .marks) q k i)) (λ _. i)
+  met-keeps : (q k : ℕ) (w : Walk) → Reached w k → Reached (metOf nodes q w) k
+  met-keeps q k w i = met-elim (λ y. Reached y k) nodes w q i (λ _ _. inserted-keeps (w .reached .marks) q k i)
 
-  met-adds : (q : ℕ) (w : Walk) → q < nodes → Seen (metOf nodes q w) q
+  met-adds : (q : ℕ) (w : Walk) → q < nodes → Reached (metOf nodes q w) q
   unfolding metOf
   met-adds q w h =
-      subst (λ y. Seen y q) (sym (ifLt-yes q nodes (ifB (member (w .seen .marks) q) w (listed q w)) w h))
-      (b-elim (λ y. Seen y q) (member (w .seen .marks) q) w (listed q w) (λ i. i) (λ _. inserted-is-in (w .seen .marks) q (omega arith)))
+      subst (λ y. Reached y q) (sym (ifLt-yes q nodes (ifB (member (w .reached .marks) q) w (marked q w)) w h))
+      (b-elim (λ y. Reached y q) (member (w .reached .marks) q) w (marked q w) (λ i. i) (λ _. inserted-is-in (w .reached .marks) q (omega arith)))
 
-  crossed-keeps : (p a b k : ℕ) (w : Walk) → Seen w k → Seen (crossedOf nodes p a b w) k
-  unfolding crossedOf
+  crossed-keeps : (p a b k : ℕ) (w : Walk) → Reached w k → Reached (crossedOf nodes p a b w) k
   crossed-keeps p a b k w i =
-      eq-elim (λ y. Seen y k) a p (metOf nodes b w) (ifEq b p (metOf nodes a w) w) (λ _. met-keeps b k w i)
-      (λ _. eq-elim (λ y. Seen y k) b p (metOf nodes a w) w (λ _. met-keeps a k w i) (λ _. i))
+      crossed-elim (λ y. Reached y k) nodes w p a b (λ _. met-keeps b k w i) (λ _ _. met-keeps a k w i) (λ _ _. i)
 
-  crossed-adds : (p q l : ℕ) (w : Walk) → Ends lowers uppers l p q → q < nodes → Seen (crossedOf nodes p (getD lowers l 0) (getD uppers l 0) w) q
-  unfolding crossedOf
+  crossed-adds : (p q l : ℕ) (w : Walk) → Ends lowers uppers l p q → q < nodes → Reached (crossedOf nodes p (getD lowers l 0) (getD uppers l 0) w) q
   crossed-adds p q l w ends h =
-      eq-elim (λ y. Seen y q) a p (metOf nodes b w) (ifEq b p (metOf nodes a w) w) (λ e. subst (λ k. Seen (metOf nodes b w) k) (to-upper e ends) (met-adds b w (omega (arith, to-upper e ends))))
-      (λ d. eq-elim (λ y. Seen y q) b p (metOf nodes a w) w (λ e. subst (λ k. Seen (metOf nodes a w) k) (to-lower d ends) (met-adds a w (omega (arith, to-lower d ends)))) (λ f. absurd (neither d f ends)))
+      crossed-elim (λ y. Reached y q) nodes w p a b
+      (λ e. subst (Reached (metOf nodes b w)) (to-upper e ends) (met-adds b w (omega (arith, to-upper e ends))))
+      (λ d _. subst (Reached (metOf nodes a w)) (to-lower d ends) (met-adds a w (omega (arith, to-lower d ends))))
+      (λ d f. absurd (neither d f ends))
     where
       a : ℕ
       a = getD lowers l 0
@@ -189,105 +180,92 @@ module _ (lowers uppers : List ℕ) (links nodes : ℕ) (fits : nodes ≤ 64) wh
   visited-done : (p : ℕ) (w : Walk) → Done (visitedOf lowers uppers links nodes p w) p
   unfolding visitedOf
   visited-done p w q l h =
-      fold-gains (λ _. Unit {0}) (λ y. Seen y q) (λ k. crossedOf nodes p (getD lowers k 0) (getD uppers k 0)) w links (l .link) (l .below) tt (λ _ _ _. tt) (λ y _. crossed-adds p q (l .link) y (l .ends) h)
+      fold-gains (λ _. Unit {0}) (λ y. Reached y q) (λ k. crossedOf nodes p (getD lowers k 0) (getD uppers k 0)) w links (l .link) (l .below) tt (λ _ _ _. tt)
+      (λ y _. crossed-adds p q (l .link) y (l .ends) h)
       (λ k y. crossed-keeps p (getD lowers k 0) (getD uppers k 0) q y)
 
   -- ---- one turn
 
-  taken-walking : (w : Walk) → 0 < w .len → Walking Idle w → Walking (λ p. p ≡ lastOf w) (takenOf w)
-  taken-walking w h x =
-      record {
-        zero-seen = x .zero-seen;
-        seen-joined = x .seen-joined;
-        list-seen = λ k l. x .list-seen k (omega arith);
-        accounted = λ p i. still p (x .accounted p i);
-        room = omega (arith, x .room);
-        entries = x .entries;
-        marks-fit = x .marks-fit;
-      }
-    where
-      sorted : (p : ℕ) (y : OnList w p) → Dec (y .place < w .len - 1) → (p ≡ lastOf w) ⊎ (OnList (takenOf w) p ⊎ Done (takenOf w) p)
-      sorted p y (yes l) = inr (inl (record { place = y .place; below = l; stands = y .stands }))
-      sorted p y (no l) =
-          let e : y .place ≡ w .len - 1 = omega (arith, y .below) in
-          inl (sym (y .stands) ∙ ap (λ k. getD (w .todo) k 0) e)
+  module _ (p : ℕ) (w : Walk) (x : Walking Idle w) where
+    taken-walking : Walking (λ k. k ≡ p) (takenOf p w)
+    taken-walking =
+        record {
+          zero-reached = x .zero-reached;
+          reached-joined = x .reached-joined;
+          todo-reached = λ k t. x .todo-reached k (was k t (ℕ-discrete k p));
+          accounted = λ k i. still k (ℕ-discrete k p) (x .accounted k i);
+        }
+      where
+        was : (k : ℕ) → ToVisit (takenOf p w) k → Dec (k ≡ p) → ToVisit w k
+        was k t (yes e) = absurd (true-not-false (member (removed (w .todo .marks) p) k) t (ap (member (removed (w .todo .marks) p)) e ∙ removed-is-out (w .todo .marks) p))
+        was k t (no d) = sym (removed-keeps-others (w .todo .marks) p k d) ∙ t
 
-      still : (p : ℕ) → Idle p ⊎ (OnList w p ⊎ Done w p) → (p ≡ lastOf w) ⊎ (OnList (takenOf w) p ⊎ Done (takenOf w) p)
-      still p (inl no-one) = absurd no-one
-      still p (inr (inl y)) = sorted p y (decLt (y .place) (w .len - 1))
-      still p (inr (inr d)) = inr (inr d)
+        still : (k : ℕ) → Dec (k ≡ p) → Idle k ⊎ (ToVisit w k ⊎ Done w k) → (k ≡ p) ⊎ (ToVisit (takenOf p w) k ⊎ Done (takenOf p w) k)
+        still k (yes e) _ = inl e
+        still k (no d) (inl no-one) = absurd no-one
+        still k (no d) (inr (inl t)) = inr (inl (removed-keeps-others (w .todo .marks) p k d ∙ t))
+        still k (no d) (inr (inr y)) = inr (inr y)
 
-  pub turn-walking : (w : Walk) → 0 < w .len → Walking Idle w → Walking Idle (turned w)
-  turn-walking w h x =
-      record {
-        zero-seen = visited .zero-seen;
-        seen-joined = visited .seen-joined;
-        list-seen = visited .list-seen;
-        accounted = λ p i. over p (visited .accounted p i);
-        room = visited .room;
-        entries = visited .entries;
-        marks-fit = visited .marks-fit;
-      }
-    where
-      visited : Walking (λ p. p ≡ lastOf w) (turned w)
-      visited =
-          visited-walking (λ p. p ≡ lastOf w) (lastOf w) (takenOf w) (x .seen-joined (lastOf w) (x .list-seen (w .len - 1) (omega arith))) (taken-walking w h x)
+    pub turn-walking : ToVisit w p → Walking Idle (turned p w)
+    turn-walking t =
+        record {
+          zero-reached = visited .zero-reached;
+          reached-joined = visited .reached-joined;
+          todo-reached = visited .todo-reached;
+          accounted = λ k i. over k (visited .accounted k i);
+        }
+      where
+        visited : Walking (λ k. k ≡ p) (turned p w)
+        visited = visited-walking (λ k. k ≡ p) p (takenOf p w) (x .reached-joined p (x .todo-reached p t)) taken-walking
 
-      over : (p : ℕ) → (p ≡ lastOf w) ⊎ (OnList (turned w) p ⊎ Done (turned w) p) → Idle p ⊎ (OnList (turned w) p ⊎ Done (turned w) p)
-      over p (inl e) = inr (inr (subst (Done (turned w)) (sym e) (visited-done (lastOf w) (takenOf w))))
-      over p (inr y) = inr y
+        over : (k : ℕ) → (k ≡ p) ⊎ (ToVisit (turned p w) k ⊎ Done (turned p w) k) → Idle k ⊎ (ToVisit (turned p w) k ⊎ Done (turned p w) k)
+        over k (inl e) = inr (inr (subst (Done (turned p w)) (sym e) (visited-done p (takenOf p w))))
+        over k (inr y) = inr y
 
   -- ---- how it starts
 
   pub start-walking : Walking Idle startOf
-  unfolding sizeOf
   start-walking =
       record {
-        zero-seen = inserted-is-in 0 0 (omega arith);
-        seen-joined = λ p i. start (sym (only p i));
-        list-seen = λ k l. subst (Seen startOf) (sym (getD-replicate 64 k 0 0 (omega arith))) (inserted-is-in 0 0 (omega arith));
-        accounted = λ p i. inr (inl (record { place = 0; below = omega arith; stands = sym (only p i) }));
-        room = omega (arith, count-inserted 0 64 0 (omega arith) (omega arith) (empty-has-none 0));
-        entries = length-replicate {A = ℕ} 64 0;
-        marks-fit = inserted-fits 0 0 (omega arith);
+        zero-reached = inserted-is-in 0 0 (omega arith);
+        reached-joined = λ p i. start (sym (only p i));
+        todo-reached = λ p l. l;
+        accounted = λ p i. inr (inl i);
       }
     where
-      only : (p : ℕ) → Seen startOf p → p ≡ 0
+      only : (p : ℕ) → Reached startOf p → p ≡ 0
       only p i = ⊎-elim (λ e. e) (λ m. absurd (true-not-false (member 0 p) m (empty-has-none p))) (in-inserted 0 0 p i)
 
   -- ---- it ends with the joined nodes
 
-  pub end-is-joined : (w : Walk) → w .len ≤ 0 → Walking Idle w → w .seen .marks ≡ joinedMarks lowers uppers links nodes
-  end-is-joined w h x = marks-unique lowers uppers links nodes fits (w .seen .marks) (x .marks-fit) (λ q. (x .seen-joined q, joined-seen))
+  pub end-is-joined : (w : Walk) → w .reached .marks < 2 ^ 64 → w .todo .marks ≡ 0 → Walking Idle w → w .reached .marks ≡ joinedMarks lowers uppers links nodes
+  end-is-joined w f h x = marks-unique lowers uppers links nodes fits (w .reached .marks) f (λ q. (x .reached-joined q, joined-reached))
     where
-      done : (p : ℕ) → Idle p ⊎ (OnList w p ⊎ Done w p) → Done w p
+      done : (p : ℕ) → Idle p ⊎ (ToVisit w p ⊎ Done w p) → Done w p
       done p (inl no-one) = absurd no-one
-      done p (inr (inl y)) = absurd (omega (arith, y .below))
+      done p (inr (inl y)) = absurd (true-not-false (member (w .todo .marks) p) y (ap (λ m. member m p) h ∙ empty-has-none p))
       done p (inr (inr d)) = d
 
-      joined-seen : {q : ℕ} → Joined lowers uppers links nodes q → Seen w q
-      joined-seen (start e) = subst (Seen w) e (x .zero-seen)
-      joined-seen (along {p} {q} j l b) = done p (x .accounted p (joined-seen j)) q l b
+      joined-reached : {q : ℕ} → Joined lowers uppers links nodes q → Reached w q
+      joined-reached (start e) = subst (Reached w) e (x .zero-reached)
+      joined-reached (along {p} {q} j l b) = done p (x .accounted p (joined-reached j)) q l b
 
   -- ---- and it ends: what lies ahead falls at each turn
 
   met-ahead : (q : ℕ) (w : Walk) → ahead (metOf nodes q w) ≤ ahead w
-  unfolding metOf sizeOf
   met-ahead q w =
-      lt-elim (λ y. ahead y ≤ ahead w) q nodes (ifB (member (w .seen .marks) q) w (listed q w)) w (λ h. b-elim (λ y. ahead y ≤ ahead w) (member (w .seen .marks) q) w (listed q w) (λ _. le-refl (ahead w)) (λ o. omega (arith, count-inserted (w .seen .marks) 64 q (omega arith) (omega arith) o, count-at-most (member (inserted (w .seen .marks) q)) 64))) (λ _. le-refl (ahead w))
+      met-elim (λ y. ahead y ≤ ahead w) nodes w q (le-refl (ahead w))
+      (λ h o. omega (arith, size-inserted (w .reached .marks) q (omega arith) o, size-at-most-64 (inserted (w .reached .marks) q), size-at-most-one-more (w .todo .marks) q (omega arith)))
 
   crossed-ahead : (p a b : ℕ) (w : Walk) → ahead (crossedOf nodes p a b w) ≤ ahead w
-  unfolding crossedOf
   crossed-ahead p a b w =
-      eq-elim (λ y. ahead y ≤ ahead w) a p (metOf nodes b w) (ifEq b p (metOf nodes a w) w) (λ _. met-ahead b w)
-      (λ _. eq-elim (λ y. ahead y ≤ ahead w) b p (metOf nodes a w) w (λ _. met-ahead a w) (λ _. le-refl (ahead w)))
+      crossed-elim (λ y. ahead y ≤ ahead w) nodes w p a b (λ _. met-ahead b w) (λ _ _. met-ahead a w) (λ _ _. le-refl (ahead w))
 
-  pub turn-ahead : (w : Walk) → 0 < w .len → ahead (turned w) < ahead w
+  pub turn-ahead : (p : ℕ) (w : Walk) → ToVisit w p → ahead (turned p w) < ahead w
   unfolding visitedOf
-  turn-ahead w h =
-      omega (arith, fold-keeps (λ y. ahead y ≤ ahead (takenOf w)) (λ l. crossedOf nodes (lastOf w) (getD lowers l 0) (getD uppers l 0)) (takenOf w) links (le-refl (ahead (takenOf w))) (λ l _ y k. le-trans (crossed-ahead (lastOf w) (getD lowers l 0) (getD uppers l 0) y) k))
-
--- the list fits its array
-pub list-within : (w : Walk) → Room w → w .len ≤ 64
-unfolding sizeOf
-list-within w r = omega (arith, count-at-most (member (w .seen .marks)) 64)
+  turn-ahead p w t = omega (arith, size-rest (w .todo .marks) p t, no-more)
+    where
+      no-more : ahead (turned p w) ≤ ahead (takenOf p w)
+      no-more =
+          fold-keeps (λ y. ahead y ≤ ahead (takenOf p w)) (λ l. crossedOf nodes p (getD lowers l 0) (getD uppers l 0)) (takenOf p w) links (le-refl (ahead (takenOf p w)))
+          (λ l _ y k. le-trans (crossed-ahead p (getD lowers l 0) (getD uppers l 0) y) k)

@@ -1,21 +1,25 @@
--- How the walk of check 10 keeps its list of nodes still to visit. Only the inner functions' contracts cite this; the answer is `firstUnjoined`.
+-- How the walk of check 10 keeps its two sets: the nodes reached, and those of them that are still to visit. Only the inner functions' contracts
+-- cite this; the answer is `firstUnjoined`.
 -- Assumes nothing.
-use Prim.Native.Nat.{ℕ, _+_, _-_}
+use Prim.Native.Nat.{ℕ}
 use mathlib.Core.List.{List}
-use lib.ListN.{getD, set}
+use lib.ListN.{getD}
 use Rattle.laws.specs.Choice.{ifB, ifLt, ifEq}
 use Rattle.laws.specs.Below.{foldBelow}
-use Rattle.nodeset.specs.Marks.{member, inserted}
+use Rattle.nodeset.specs.Marks.{member, inserted, removed}
 use Rattle.joined.specs.declared.Walk.{Walk}
 
--- q is marked and put on the list
-abbrev pub listed : ℕ → Walk → Walk
-listed q w =
-    record { seen = record { marks = inserted (w .seen .marks) q }; todo = set (w .todo) (w .len) q; len = w .len + 1 }
+-- the walk whose two sets have these marks
+abbrev pub walk : ℕ → ℕ → Walk
+walk reached todo = record { reached = record { marks = reached }; todo = record { marks = todo } }
 
--- q is met: a node that was not seen yet is marked and put on the list
+-- q is marked as reached and as still to visit
+abbrev pub marked : ℕ → Walk → Walk
+marked q w = walk (inserted (w .reached .marks) q) (inserted (w .todo .marks) q)
+
+-- q is met: a node that was not reached yet is marked in both sets
 unfoldable pub metOf : ℕ → ℕ → Walk → Walk
-metOf nodes q w = ifLt q nodes (ifB (member (w .seen .marks) q) w (listed q w)) w
+metOf nodes q w = ifLt q nodes (ifB (member (w .reached .marks) q) w (marked q w)) w
 
 -- the other end of a link (a, b) of p is met
 unfoldable pub crossedOf : ℕ → ℕ → ℕ → ℕ → Walk → Walk
@@ -26,6 +30,6 @@ unfoldable pub visitedOf : List ℕ → List ℕ → ℕ → ℕ → ℕ → Wal
 visitedOf lowers uppers links nodes p w =
     foldBelow (λ l. crossedOf nodes p (getD lowers l 0) (getD uppers l 0)) w links
 
--- the list without its last
-abbrev pub takenOf : Walk → Walk
-takenOf w = record { seen = w .seen; todo = w .todo; len = w .len - 1 }
+-- p is no longer to visit
+abbrev pub takenOf : ℕ → Walk → Walk
+takenOf p w = walk (w .reached .marks) (removed (w .todo .marks) p)

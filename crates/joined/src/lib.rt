@@ -1,50 +1,43 @@
-// Whether all nodes are joined through links: check 10 of a plan. The walk starts at node 0 and keeps a list of nodes still to visit; it
-// assumes nothing of the checks before it.
+// Whether all nodes are joined through links: check 10 of a plan. The walk starts at node 0 and keeps two sets, the nodes reached and the nodes
+// still to visit, lowest number first; it assumes nothing of the checks before it.
 use network::Network;
 use network::at_most;
 use nodeset::NodeSet;
 ghost use mathlib.Core.Path.{_≡_};
 ghost use mathlib.Core.Bool.{not};
-ghost use Prim.Native.Nat.{_-_, _<_, _≤_};
-ghost use lib.ListN.{getD};
+ghost use Prim.Native.Nat.{_≤_};
 ghost use Rattle.laws.specs.Below.{firstOf};
-ghost use Rattle.nodeset.specs.Marks.{member, sizeOf};
+ghost use Rattle.nodeset.specs.Marks.{member, lowestOf};
 ghost use Rattle.joined.specs.Joined.{joinedMarks, firstUnjoined};
 ghost use Rattle.joined.specs.Walk.{metOf, crossedOf, visitedOf, takenOf};
 
-// The nodes seen so far, and those of them that are still to visit: the first `len` entries of the list.
+// The nodes reached so far, and those of them that are still to visit.
 struct Walk {
-    seen: NodeSet,
-    todo: [u8; 64],
-    len: usize,
+    reached: NodeSet,
+    todo: NodeSet,
 }
 
-// q is met: a node that was not seen yet is marked and put on the list. No node is put there twice, so there is room.
+// q is met: a node that was not reached yet is marked in both sets.
 fn meet(w: Walk, nodes: usize, q: u8) -> Walk
-    requires { ⌜ (nodes ≤ 64) × (w .len ≤ sizeOf (w .seen .marks)) ⌝ }
     ensures { λ r. ⌜ r ≡ metOf nodes q w ⌝ }
 {
     let at = q as usize;
     if nodes <= at {
         return w;
     }
-    let seen = w.seen;
-    if seen.contains(at) {
+    let reached = w.reached;
+    if reached.contains(at) {
         return w;
     }
-    let len = w.len;
-    let mut todo = w.todo;
-    todo[len] = q;
+    let todo = w.todo;
     Walk {
-        seen: seen.insert(at),
-        todo,
-        len: len + 1,
+        reached: reached.insert(at),
+        todo: todo.insert(at),
     }
 }
 
 // The other end of a link (a, b) of p is met.
 fn cross(w: Walk, nodes: usize, p: u8, a: u8, b: u8) -> Walk
-    requires { ⌜ (nodes ≤ 64) × (w .len ≤ sizeOf (w .seen .marks)) ⌝ }
     ensures { λ r. ⌜ r ≡ crossedOf nodes p a b w ⌝ }
 {
     if a == p {
@@ -58,7 +51,7 @@ fn cross(w: Walk, nodes: usize, p: u8, a: u8, b: u8) -> Walk
 
 // The other end of every link of p is met.
 fn visit(lowers: &[u8; 128], uppers: &[u8; 128], links: usize, nodes: usize, p: u8, w: Walk) -> Walk
-    requires { ⌜ ((links ≤ 128) × (nodes ≤ 64)) × (w .len ≤ sizeOf (w .seen .marks)) ⌝ }
+    requires { ⌜ links ≤ 128 ⌝ }
     ensures { λ r. ⌜ r ≡ visitedOf (now (lowers .entry)) (now (uppers .entry)) links nodes p w ⌝ }
 {
     let mut met = w;
@@ -71,27 +64,23 @@ fn visit(lowers: &[u8; 128], uppers: &[u8; 128], links: usize, nodes: usize, p: 
     met
 }
 
-// The last of the list, the next to visit.
-fn next(w: Walk) -> u8
-    requires { ⌜ (0 < w .len) × (w .len ≤ 64) ⌝ }
-    ensures { λ r. ⌜ r ≡ getD (w .todo) (w .len - 1) 0 ⌝ }
+// The next to visit: "lowest number first".
+fn next(w: Walk) -> u32
+    ensures { λ r. ⌜ r ≡ lowestOf (w .todo .marks) ⌝ }
 {
-    let at = w.len - 1;
     let todo = w.todo;
-    todo[at]
+    todo.lowest()
 }
 
-// The list without its last.
-fn taken(w: Walk) -> Walk
-    requires { ⌜ 0 < w .len ⌝ }
-    ensures { λ r. ⌜ r ≡ takenOf w ⌝ }
+// p is no longer to visit.
+fn taken(w: Walk, p: u8) -> Walk
+    ensures { λ r. ⌜ r ≡ takenOf p w ⌝ }
 {
+    let reached = w.reached;
     let todo = w.todo;
-    let seen = w.seen;
     Walk {
-        seen,
-        todo,
-        len: w.len - 1,
+        reached,
+        todo: todo.remove(p as usize),
     }
 }
 
@@ -100,17 +89,17 @@ fn joined_nodes(lowers: &[u8; 128], uppers: &[u8; 128], links: usize, nodes: usi
     requires { ⌜ (links ≤ 128) × (nodes ≤ 64) ⌝ }
     ensures { λ r. ⌜ r .marks ≡ joinedMarks (now (lowers .entry)) (now (uppers .entry)) links nodes ⌝ }
 {
+    let first = NodeSet::EMPTY.insert(0);
     let mut w = Walk {
-        seen: NodeSet::EMPTY.insert(0),
-        todo: [0u8; 64],
-        len: 1,
+        reached: first,
+        todo: first,
     };
-    while 0 < w.len {
-        let p = next(w);
-        let rest = visit(lowers, uppers, links, nodes, p, taken(w));
+    while 0 < w.todo.marks {
+        let p = next(w) as u8;
+        let rest = visit(lowers, uppers, links, nodes, p, taken(w, p));
         w = rest;
     }
-    w.seen
+    w.reached
 }
 
 fn is_absent(set: NodeSet, node: usize) -> bool

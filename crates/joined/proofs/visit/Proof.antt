@@ -1,4 +1,4 @@
--- `visit`: after l links the walk is the fold over the first l, and there is still room.
+-- `visit`: after l links the walk is the fold over the first l, and no more.
 -- Assumes nothing.
 use borrow.Author.Needs.{needs}
 use Prim.Native.Nat.{_≤_, _-_}
@@ -7,30 +7,30 @@ use mathlib.Core.Path.{_≡_, sym, _∙_, ap, subst}
 use lib.ListN.{getD}
 use Rattle.laws.proofs.Below.{fold-start, fold-more}
 use Rattle.joined.specs.Walk.{crossedOf, visitedOf}
-use Rattle.joined.proofs.Room.{Room, crossed-room}
 use Rattle.joined.proofs.visit.Statement.{statement}
 use Rattle.joined.proofs.visit.Tie as tie
 
 abbrev Inv-loop : tie.InvT-loop
 Inv-loop lowers uppers links nodes p met₀ l₀ met l =
-    (l ≤ links) × Room met × (met ≡ visitedOf lowers uppers l nodes p met₀)
+    (l ≤ links) × (met ≡ visitedOf lowers uppers l nodes p met₀)
 
 abbrev μ-loop : tie.MeasureT-loop
 μ-loop lowers uppers links nodes p met₀ l₀ met l = links - l
 
 loop-holds : tie.Need-loop-holds Inv-loop μ-loop
 unfolding visitedOf
-loop-holds c = (search needs, search needs, sym (fold-start _ _))
+loop-holds c = (search needs, sym (fold-start _ _))
 
 loop-again : tie.Need-loop-again Inv-loop μ-loop
 unfolding visitedOf
 loop-again c =
     let at-loop = c .before .before .before .before in
     let args = at-loop .before .args in
-    (search needs, subst Room (sym (c .cross .ensures)) (crossed-room (args .nodes) (args .p) _ _ (at-loop .loop .met) (search needs) (at-loop .loop .inv .1)), c .cross .ensures ∙ ap (crossedOf (args .nodes) (args .p) _ _) (at-loop .loop .inv .2) ∙ sym (fold-more (λ k. crossedOf (args .nodes) (args .p) (getD (args .lowers .now) k 0) (getD (args .uppers .now) k 0)) _ _))
+    let more = sym (fold-more (λ k. crossedOf (args .nodes) (args .p) (getD (args .lowers .now) k 0) (getD (args .uppers .now) k 0)) _ _) in
+    (search needs, c .cross .ensures ∙ ap (crossedOf (args .nodes) (args .p) _ _) (at-loop .loop .inv .1) ∙ more)
 
 returns : tie.Need-returns Inv-loop μ-loop
-returns c = rw (le-antisymm (c .before .loop .inv .0) (c .loop-test .left)) at (c .before .loop .inv .2)
+returns c = rw (le-antisymm (c .before .loop .inv .0) (c .loop-test .left)) at (c .before .loop .inv .1)
 
 pub visit-spec : {M : Type 1} → statement M
 visit-spec =
