@@ -19,6 +19,7 @@ pub mod Outcomes
 pub mod Plans
 pub mod Reached
 pub mod Records
+pub mod Rounding
 pub mod Seats
 pub mod Slots
 pub mod Start
