@@ -279,11 +279,19 @@ impl State {
             35 => {
                 let heard = |&q: &usize| self.lane[net.lane[q * MAX_NODES + p] as usize].slot[parity] as u32;
                 let sum: u32 = self.node[p].value as u32 + net.neighbours[p].iter().map(heard).sum::<u32>();
-                self.node[p].value = (sum / (1 + net.neighbours[p].len() as u32)) as u16;
+                self.node[p].value = nearest(sum, 1 + net.neighbours[p].len() as u32);
             }
             _ => {}
         }
     }
+}
+
+/// Document 02, W3: to the nearest whole number, a half going to the even one. A half goes up first, and then down again from an odd number.
+fn nearest(sum: u32, count: u32) -> u16 {
+    let doubled = 2 * sum + count;
+    let up = doubled / (2 * count);
+    let half = doubled % (2 * count) == 0;
+    (up - (up & half as u32)) as u16
 }
 
 /// One record: the bytes read, or the answer that refuses it.

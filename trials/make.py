@@ -5,10 +5,12 @@ layout/ the plans to lay out, NAME.hex, with the plan that `desk layout DEPTH` m
 Usage: trials/make.py        (writes the files anew; the same text each time)
 
 The simulator here is the bench's rules once more, for writing samples: an action is taken where its needs are met, and a run goes on until
-nothing can be taken. Which action comes next is the delivery order.
+nothing can be taken. Which action comes next is the delivery order. Python's `round` of a fraction goes to the nearest whole number, a half to the
+even one, which is document 02's rule.
 """
 import os
 import random
+from fractions import Fraction
 
 HERE = os.path.dirname(os.path.abspath(__file__))
 
@@ -116,7 +118,7 @@ class Run:
             self.queues[action[1:]].pop(0)
         elif kind == INPUT:
             heard = [self.slots.get((q, p, i % 2), 0) for q in self.near[p]]
-            self.values[p] = (self.values[p] + sum(heard)) // (1 + len(heard))
+            self.values[p] = round(Fraction(self.values[p] + sum(heard), 1 + len(heard)))
 
     def go(self, choose):
         """Takes actions until none can be taken, each as `choose` picks it; answers them in order."""
@@ -187,6 +189,16 @@ def path():
     return Run(3, [(1, 0), (1, 10), (1, 5)], [(0, 1, 0), (1, 2, 0)])
 
 
+def pair(a, b):
+    """Plan T with other values and one round."""
+    return Run(1, [(0, a), (1, b)], [(0, 1, 1)])
+
+
+def star():
+    """A hub at 0 and three leaves at 2, one cluster."""
+    return Run(1, [(0, 0), (0, 2), (0, 2), (0, 2)], [(0, 1, 0), (0, 2, 0), (0, 3, 0)])
+
+
 def branch():
     """Nine nodes on a branch duct: three clusters of three, each a root with two leaves, joined in a row by one preferred link each."""
     nodes = [(p // 3 * 3, 400 + 75 * p) for p in range(9)]
@@ -211,7 +223,10 @@ def refused(name, words, records, text):
         f.write(text + "\n")
 
 
-write("p-three-rounds", ["Plan P: the path 0-1-2, one cluster, root 1. Three rounds to their end: 5 5 5."], path(), in_turn)
+write("p-three-rounds", ["Plan P: the path 0-1-2, one cluster, root 1. Three rounds to their end: 5 5 8, 5 6 6, 6 6 6."], path(), in_turn)
+write("half-1-2", ["Two controllers at 1 and 2: the half between them goes to the even number, 2."], pair(1, 2), in_turn)
+write("half-0-1", ["Two controllers at 0 and 1: the half between them goes to the even number, 0."], pair(0, 1), in_turn)
+write("half-star", ["A star, one cluster: a hub at 0 and three leaves at 2. The hub's 6 / 4 goes to the even number, 2; a leaf has 2 / 2."], star(), in_turn)
 BRANCH = "A branch of nine controllers, three clusters in a row, two rounds to their end."
 write("branch-in-turn", [BRANCH, "Order: all of one kind before any of the next. Every order ends at the same values."], branch(), in_turn)
 write("branch-ahead", [BRANCH, "Order: whoever may start the next round does, before the others end theirs. Every order ends at the same values."], branch(), ahead)

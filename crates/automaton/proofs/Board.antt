@@ -7,8 +7,10 @@ use mathlib.Core.Path.{_≡_, refl}
 use mathlib.Core.Bool.{true}
 use mathlib.Core.List.{List, [], _∷_, _++_, map}
 use lib.ListN.{replicate}
-use Rattle.laws.specs.Choice.{ifB, ifEq, both}
+use Rattle.laws.specs.Choice.{ifB, ifLt, ifEq, both}
 use Rattle.laws.specs.Below.{pickBelow}
+use Rattle.laws.specs.Lists.{total}
+use Rattle.laws.specs.Mean.{shareOf, ruleOf}
 use Rattle.automaton.specs.Lists.{every}
 use Rattle.automaton.specs.Actions.{Act, same, bodyOf, output, packetSent, packetDelivered, ackSent, ackDelivered, ok}
 use Rattle.automaton.specs.Actions.{subtreeOkSent, subtreeOkDelivered, clusterOk, downSent, downDelivered}
@@ -20,7 +22,7 @@ use Rattle.automaton.specs.Global.{Global, packet, ack, parity, begin}
 use Rattle.automaton.specs.Answer.{sends, must, packetAtFront, ackAtFront, met, fits, known, legal, next, inTime, enabled, room, answer}
 use Rattle.automaton.specs.Run.{onCount, onQueue, carried, onSlot, heard, onValue, after, step, run}
 use Rattle.automaton.specs.Lockstep.{lockstep}
-use Rattle.automaton.proofs.Plans.{planT, planP, planC}
+use Rattle.automaton.proofs.Plans.{planT, planPair, planStar, planP, planC}
 
 -- ---- what a run comes to
 
@@ -43,11 +45,11 @@ unfolding
     row refusals answers run step answer after onCount onQueue carried onSlot heard onValue next
     known legal fits inTime enabled room sends must met packetAtFront ackAtFront begin parity
     needsOf know may subtreeNeeds upNeeds isRoot neighbours children preferredNeighbours
-    bodyOf same every pickBelow ifB ifEq both planT planP planC
+    bodyOf same every pickBelow ifB ifLt ifEq both total shareOf ruleOf planT planP planC
 outcome net l = (row net (run net (begin net) l .value), refusals net (begin net) 0 l)
 
 pub lockstepRow : Net ℕ → ℕ → List ℕ
-unfolding row lockstep neighbours pickBelow ifB planT planP
+unfolding row lockstep neighbours pickBelow ifB ifLt ifEq total shareOf ruleOf planT planPair planStar planP
 lockstepRow net k = row net (lockstep net k)
 
 -- ---- document 01's own trials
@@ -57,11 +59,23 @@ pub lockstep-T : lockstepRow (planT 1) 1 ≡ 200 ∷ 200 ∷ []
 unfolding lockstepRow
 lockstep-T = refl
 
--- "P, rounds 1, 2, 3: 5 5 7; 5 5 6; 5 5 5"
+-- "node 2 of plan P gives 8 after one round" (document 02): rounds 1, 2, 3
 pub lockstep-P :
-    map (lockstepRow (planP 3)) (1 ∷ 2 ∷ 3 ∷ []) ≡ (5 ∷ 5 ∷ 7 ∷ []) ∷ (5 ∷ 5 ∷ 6 ∷ []) ∷ (5 ∷ 5 ∷ 5 ∷ []) ∷ []
+    map (lockstepRow (planP 3)) (1 ∷ 2 ∷ 3 ∷ []) ≡ (5 ∷ 5 ∷ 8 ∷ []) ∷ (5 ∷ 6 ∷ 6 ∷ []) ∷ (6 ∷ 6 ∷ 6 ∷ []) ∷ []
 unfolding lockstepRow
 lockstep-P = refl
+
+-- "Two at 1 and 2 now give 2; two at 0 and 1 give 0" (document 02)
+pub lockstep-pairs :
+    map (λ a. lockstepRow (planPair a (suc a)) 1) (1 ∷ 0 ∷ 2 ∷ 65534 ∷ [])
+    ≡ (2 ∷ 2 ∷ []) ∷ (0 ∷ 0 ∷ []) ∷ (2 ∷ 2 ∷ []) ∷ (65534 ∷ 65534 ∷ []) ∷ []
+unfolding lockstepRow
+lockstep-pairs = refl
+
+-- a half of four values: 0 + 2 + 2 + 2, divided by 4
+pub lockstep-star : lockstepRow (planStar 0 2) 1 ≡ 2 ∷ 1 ∷ 1 ∷ 1 ∷ []
+unfolding lockstepRow
+lockstep-star = refl
 
 -- "Second output of 0 at once: 15 if rounds is 1, 16 if 2"
 pub second-output-of-1 : outcome (planT 1) (output 0 ∷ output 0 ∷ []) .1 ≡ (1, 15) ∷ []

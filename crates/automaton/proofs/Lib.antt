@@ -7,6 +7,7 @@ pub mod Links
 pub mod Lists
 pub mod Order
 pub mod Plans
+pub mod Rest
 pub mod Room
 pub mod Runs
 pub mod Trees

@@ -1,6 +1,6 @@
--- Small plans: document 01's T and P, and a cluster of two. Plan T is an accepted network, so demand 3 speaks of it.
+-- Small plans: document 01's T and P, a cluster of two, two controllers at any values, and a star of four. Plan T is an accepted network, so demand 3 speaks of it.
 -- Assumes nothing.
-use Prim.Native.Nat.{ℕ, zero, suc, _+_, _/_, _<_}
+use Prim.Native.Nat.{ℕ, zero, suc, _<_}
 use native.Mathlib.Omega.{arith}
 use mathlib.Core.Path.{_≡_, refl, subst₂}
 use mathlib.Core.Logic.{_⊎_, inl, inr}
@@ -10,16 +10,11 @@ use lib.Dec.{eqb}
 use lib.ListN.{length, getD}
 use borrow.Author.Tests.{eqb-true}
 use Rattle.laws.specs.Choice.{ifB, both}
-use Rattle.laws.specs.Lists.{total}
+use Rattle.laws.specs.Mean.{ruleOf}
 use Rattle.laws.proofs.Choice.{both-left, both-right}
 use Rattle.automaton.specs.Network.{Net}
 use Rattle.automaton.specs.Clusters.{climb, rootOf}
 use Rattle.automaton.specs.Accepted.{Accepted, Joining}
-
--- "(own value + the values in the slots of i's parity from each neighbour) divided by (1 + number of neighbours), the remainder dropped"
-unfoldable pub mean : ℕ → List ℕ → ℕ
-unfolding total
-mean own others = (own + total others) / (1 + length others)
 
 -- a link's ends a and b, and its flag, 0 ordinary or 1 preferred
 abbrev pub Link : Type 0
@@ -35,7 +30,7 @@ joins t (l ∷ ls) p q =
 
 -- a plan by its rounds, its nodes (parent, start value) and its links
 unfoldable pub plan : ℕ → List (ℕ × ℕ) → List Link → Net ℕ
-unfolding joins mean
+unfolding joins
 plan rounds nodes links =
     record {
       n = length nodes;
@@ -45,13 +40,23 @@ plan rounds nodes links =
       preferred = joins (λ l. eqb (l .2) 1) links;
       start = λ p. (getD nodes p (p, 0)) .1;
       unheard = 0;
-      rule = mean;
+      rule = ruleOf;
     }
 
 -- "Plan T: two roots, values 100 and 301, one preferred link"
 unfoldable pub planT : ℕ → Net ℕ
 unfolding plan
 planT rounds = plan rounds ((0, 100) ∷ (1, 301) ∷ []) ((0, 1, 1) ∷ [])
+
+-- T with other values
+unfoldable pub planPair : ℕ → ℕ → Net ℕ
+unfolding plan
+planPair a b = plan 1 ((0, a) ∷ (1, b) ∷ []) ((0, 1, 1) ∷ [])
+
+-- one cluster of four: its root 0 at a, linked to three leaves at b
+unfoldable pub planStar : ℕ → ℕ → Net ℕ
+unfolding plan
+planStar a b = plan 1 ((0, a) ∷ (0, b) ∷ (0, b) ∷ (0, b) ∷ []) ((0, 1, 0) ∷ (0, 2, 0) ∷ (0, 3, 0) ∷ [])
 
 -- "Plan P: path 0-1-2, one cluster, root 1, values 0, 10, 5"
 unfoldable pub planP : ℕ → Net ℕ

@@ -27,6 +27,7 @@ pub mod Promise_W4
 pub mod Promised
 pub mod Reached
 pub mod Records
+pub mod Rounding
 pub mod Seats
 pub mod Slots
 pub mod Start

@@ -16,7 +16,7 @@ use Rattle.nodeset.proofs.Members.{values-same}
 use Rattle.network.specs.declared.Network.{Network}
 use Rattle.network.specs.Valid.{validNetwork}
 use Rattle.network.proofs.Valid.{valid-limits}
-use Rattle.lockstep.specs.Rule.{ruleOf}
+use Rattle.laws.specs.Mean.{ruleOf}
 use Rattle.actions.specs.Table.{doesOf}
 use Rattle.actions.specs.Kinds.{countIn}
 use Rattle.queue.specs.Queue.{slotAt}

@@ -14,7 +14,7 @@ use Rattle.nodeset.proofs.Members.{values-same}
 use Rattle.network.specs.declared.Network.{Network}
 use Rattle.network.specs.Valid.{validNetwork}
 use Rattle.network.proofs.Valid.{valid-limits}
-use Rattle.lockstep.specs.Rule.{ruleOf}
+use Rattle.laws.specs.Mean.{ruleOf}
 use Rattle.lockstep.specs.Rounds.{nextBy, lockstepOf}
 use Rattle.lockstep.proofs.Rounds.{lockstep-start, rounds-at}
 use Rattle.actions.specs.Kinds.{kinds, cellOf}

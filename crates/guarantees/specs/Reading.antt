@@ -9,7 +9,7 @@ use lib.ListN.{getD}
 use Rattle.laws.specs.Choice.{ifB, ifLt, ifEq, both}
 use Rattle.laws.specs.Below.{firstOf, listBelow}
 use Rattle.network.specs.declared.Network.{Network}
-use Rattle.lockstep.specs.Rule.{ruleOf}
+use Rattle.laws.specs.Mean.{ruleOf}
 use Rattle.automaton.specs.Actions.{Act, Place, aNode, aLink, aPreferredLink, aChild, aRoot, bodyOf}
 use Rattle.automaton.specs.Network.{Net}
 use Rattle.automaton.specs.Global.{Msg, packet, ack, Global}

@@ -73,15 +73,15 @@ noNetwork = (17, 0, 0)
 abbrev pub T-lockstep : Trial
 T-lockstep = trial (planT 1) [] 1 (end (0, 18) (0, 0, 0) (100 ∷ 301 ∷ []) (200 ∷ 200 ∷ []))
 
--- "P, rounds 1, 2, 3: 5 5 7; 5 5 6; 5 5 5."
+-- P, rounds 1, 2, 3, by the rounding of document 02: "node 2 of plan P gives 8 after one round"
 abbrev pub P-lockstep-1 : Trial
-P-lockstep-1 = trial (planP 3) [] 1 (end (0, 27) (0, 0, 0) (0 ∷ 10 ∷ 5 ∷ []) (5 ∷ 5 ∷ 7 ∷ []))
+P-lockstep-1 = trial (planP 3) [] 1 (end (0, 27) (0, 0, 0) (0 ∷ 10 ∷ 5 ∷ []) (5 ∷ 5 ∷ 8 ∷ []))
 
 abbrev pub P-lockstep-2 : Trial
-P-lockstep-2 = trial (planP 3) [] 2 (end (0, 27) (0, 0, 0) (0 ∷ 10 ∷ 5 ∷ []) (5 ∷ 5 ∷ 6 ∷ []))
+P-lockstep-2 = trial (planP 3) [] 2 (end (0, 27) (0, 0, 0) (0 ∷ 10 ∷ 5 ∷ []) (5 ∷ 6 ∷ 6 ∷ []))
 
 abbrev pub P-lockstep-3 : Trial
-P-lockstep-3 = trial (planP 3) [] 3 (end (0, 27) (0, 0, 0) (0 ∷ 10 ∷ 5 ∷ []) (5 ∷ 5 ∷ 5 ∷ []))
+P-lockstep-3 = trial (planP 3) [] 3 (end (0, 27) (0, 0, 0) (0 ∷ 10 ∷ 5 ∷ []) (6 ∷ 6 ∷ 6 ∷ []))
 
 -- "T with 2 rounds: node 0 finishes round 1, starts round 2, and its packet 200 arrives before node 1's first input. Node 1 still gets 200 in
 -- round 1. 250 is wrong."
@@ -150,7 +150,7 @@ wholeRound =
 
 -- 46 actions in 108 bytes; (0 + 10) / 2, (10 + 0 + 5) / 3, (5 + 10) / 2
 abbrev pub P-whole-round : Trial
-P-whole-round = trial (planP 1) wholeRound 1 (end (0, 27) (0, 108, 46) (5 ∷ 5 ∷ 7 ∷ []) (5 ∷ 5 ∷ 7 ∷ []))
+P-whole-round = trial (planP 1) wholeRound 1 (end (0, 27) (0, 108, 46) (5 ∷ 5 ∷ 8 ∷ []) (5 ∷ 5 ∷ 8 ∷ []))
 
 -- the same up to the words down the tree, and then node 0's up word: it does not know yet
 abbrev pub P-up-before-down : Trial

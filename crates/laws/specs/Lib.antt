@@ -1,3 +1,4 @@
 pub mod Below
 pub mod Choice
 pub mod Lists
+pub mod Mean

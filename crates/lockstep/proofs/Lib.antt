@@ -1,3 +1,4 @@
 pub mod Rounds
 pub mod Rule
 pub mod Tables
+pub mod Worked

@@ -12,7 +12,8 @@ use Rattle.laws.proofs.Below.{length-over, over-below, over-above}
 use Rattle.nodeset.specs.Marks.{member}
 use Rattle.network.specs.declared.Network.{Network}
 use Rattle.nodeset.specs.Marks.{valuesIn}
-use Rattle.lockstep.specs.Rule.{ruleOf, meanOf}
+use Rattle.laws.specs.Mean.{ruleOf}
+use Rattle.lockstep.specs.Rule.{meanOf}
 use Rattle.lockstep.specs.Rounds.{nextBy, roundBy, roundsBy, lockstepOf}
 use Rattle.nodeset.proofs.Members.{values-same}
 use Rattle.laws.proofs.Below.{over-keeps}

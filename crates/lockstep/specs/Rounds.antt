@@ -4,9 +4,9 @@ use Prim.Native.Nat.{ℕ, zero, suc}
 use mathlib.Core.List.{List}
 use lib.ListN.{getD}
 use Rattle.laws.specs.Below.{overBelow}
+use Rattle.laws.specs.Mean.{ruleOf}
 use Rattle.network.specs.declared.Network.{Network}
 use Rattle.nodeset.specs.Marks.{valuesIn}
-use Rattle.lockstep.specs.Rule.{ruleOf}
 
 -- node p's new value by the rule, where xs has the values of all nodes and sets their neighbour sets
 unfoldable pub nextBy : (ℕ → List ℕ → ℕ) → List ℕ → List ℕ → ℕ → ℕ

@@ -5,8 +5,9 @@ ghost use mathlib.Core.Path.{_≡_};
 ghost use Prim.Native.Nat.{_+_, _*_, _≤_, _<_};
 ghost use lib.ListN.{length, getD};
 ghost use Rattle.laws.specs.Below.{overBelow};
+ghost use Rattle.laws.specs.Mean.{shareOf, ruleOf};
 ghost use Rattle.nodeset.specs.Marks.{sizeOf, sumIn};
-ghost use Rattle.lockstep.specs.Rule.{shareOf, ruleOf, meanOf};
+ghost use Rattle.lockstep.specs.Rule.{meanOf};
 ghost use Rattle.lockstep.specs.Rounds.{roundBy, roundsBy};
 ghost use Rattle.lockstep.specs.Table.{tableNumber, tableOf};
 
@@ -26,12 +27,22 @@ fn wide(value: u16) -> u32
     value as u32
 }
 
-// One share of the sum: the rule's only division. At most 65,535 for each of the count keeps it a u16.
+// One share of the sum, "to the nearest whole number, a half going to the even one": the rule's only division. At most 65,535 for each of the count
+// keeps it a u16.
 fn share(sum: u32, count: u32) -> u16
     requires { ⌜ (0 < count) × (count ≤ 65) × (sum ≤ 65535 * count) ⌝ }
     ensures { λ r. ⌜ r ≡ shareOf sum count ⌝ }
 {
-    (sum / count) as u16
+    let whole = sum / count;
+    let rest = sum % count;
+    let twice = 2 * rest;
+    if count < twice {
+        return (whole + 1) as u16;
+    }
+    if twice == count {
+        return (whole + whole % 2) as u16;
+    }
+    whole as u16
 }
 
 // The sum of what was heard from the members of the set: at most 65,535 for each.
@@ -49,7 +60,7 @@ fn sum_in(set: NodeSet, heard: &[u16; 64]) -> u32
     sum
 }
 
-// The new value of a node: "(own value + the values .. from each neighbour) divided by (1 + number of neighbours), the remainder dropped".
+// The new value of a node: "(own value + the values .. from each neighbour) divided by (1 + number of neighbours)", rounded by `share`.
 // `heard` is by node number; what stands there for others than the members of the set does not matter.
 pub fn mean(set: NodeSet, own: u16, heard: &[u16; 64]) -> u16
     ensures { λ r. ⌜ r ≡ meanOf (set .marks) own (now (heard .entry)) ⌝ }

@@ -24,7 +24,7 @@ use Rattle.tree.specs.Checks.{untied, firstUntied, firstLost}
 use Rattle.clusters.specs.Clusters.{rootsOf, rootAt, inside, firstInside, notOne, firstNotOne, clusterCount}
 use Rattle.joined.specs.Joined.{follow, across, pass, joinedMarks, firstUnjoined}
 use Rattle.plan.specs.Checks.{checksOf, planOf}
-use Rattle.lockstep.specs.Rule.{shareOf, ruleOf}
+use Rattle.laws.specs.Mean.{shareOf, ruleOf}
 use Rattle.actions.specs.Kinds.{numberOf, indexOf, kindAt, cellOf}
 use Rattle.actions.specs.Table.{placeOf, ownOf, knowsBy, mayGoBy, needOf, everyOf, doesOf}
 use Rattle.actions.specs.Records as actions

@@ -4,7 +4,7 @@ use crate::ranges::network_outside;
 use second_plan::answers::*;
 use second_plan::memory::*;
 use second_plan::nodes::linked;
-ghost use Prim.Native.Nat.{_<_, _≤_};
+ghost use Prim.Native.Nat.{_*_, _<_, _≤_};
 ghost use lib.ListN.{length};
 
 // A number of two bytes. A larger one is no start value and no mean.
@@ -35,8 +35,30 @@ fn heard_from(plan: &Plan, world: &World, slot: usize, p: usize, q: usize) -> us
     0
 }
 
+// "round to the nearest whole number, a half going to the even one": of the two whole numbers beside
+// the quotient the one that is less far from the sum, taken count times.
+fn nearest(sum: usize, count: usize) -> usize
+    requires { ⌜ (0 < count) × (count ≤ 65) × (sum ≤ 65535 * 65) ⌝ }
+{
+    let below = sum / count;
+    let above = below + 1;
+    let reached = below * count;
+    let too_low = sum - reached;
+    let too_high = reached + count - sum;
+    if too_low < too_high {
+        return below;
+    }
+    if too_high < too_low {
+        return above;
+    }
+    if below % 2 == 0 {
+        return below;
+    }
+    above
+}
+
 // "(own value + the values in the slots .. from each neighbour) divided by (1 + number of
-// neighbours), the remainder dropped"
+// neighbours)"
 fn mean(plan: &Plan, world: &World, slot: usize, p: usize) -> u16 {
     let mut sum = count(world, VALUE, p, p);
     let mut neighbours = 0usize;
@@ -44,7 +66,7 @@ fn mean(plan: &Plan, world: &World, slot: usize, p: usize) -> u16 {
         sum += heard_from(plan, world, slot, p, q);
         neighbours += neighbours_at(plan, p, q);
     }
-    narrow(sum / (1 + neighbours))
+    narrow(nearest(sum, 1 + neighbours))
 }
 
 // "Input i of p sets its value to" the mean over the slots of i's parity.

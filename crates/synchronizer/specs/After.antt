@@ -5,7 +5,7 @@ use mathlib.Core.List.{List}
 use lib.ListN.{getD, set}
 use Rattle.network.specs.declared.Network.{Network}
 use Rattle.nodeset.specs.Marks.{valuesIn}
-use Rattle.lockstep.specs.Rule.{ruleOf}
+use Rattle.laws.specs.Mean.{ruleOf}
 use Rattle.actions.specs.declared.Kind.{Kind}
 use Rattle.actions.specs.declared.Counter.{Counter}
 use Rattle.actions.specs.declared.Does.{Does}
@@ -21,7 +21,7 @@ abbrev pub stateOf : List ℕ → List ℕ → List ℕ → List ℕ → List �
 stateOf counts lens sorts loads slots values =
     record { counts = counts; lens = lens; sorts = sorts; loads = loads; slots = slots; values = values }
 
--- "(own value + the values in the slots of i's parity from each neighbour) divided by (1 + number of neighbours), the remainder dropped"
+-- "(own value + the values in the slots of i's parity from each neighbour) divided by (1 + number of neighbours)", to the nearest whole number
 unfoldable pub meanHeard : List ℕ → List ℕ → ℕ → ℕ → ℕ → ℕ → ℕ
 meanHeard lanes slots neighbours p own i = ruleOf own (valuesIn (λ q. getD slots (slotAt (laneIn lanes q p) i) 0) neighbours)
 

@@ -46,7 +46,7 @@ fn all_heard(slots: &[u16; 512], lanes: &[u8; 4096], set: NodeSet, p: u8, i: u16
     heard
 }
 
-// "(own value + the values in the slots of i's parity from each neighbour) divided by (1 + number of neighbours), the remainder dropped"
+// "(own value + the values in the slots of i's parity from each neighbour) divided by (1 + number of neighbours)", to the nearest whole number
 fn mean_heard(
     slots: &[u16; 512],
     lanes: &[u8; 4096],

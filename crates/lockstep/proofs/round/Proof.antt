@@ -6,7 +6,7 @@ use mathlib.Core.Path.{_≡_, sym, _∙_}
 use borrow.Author.Needs.{needs}
 use Rattle.laws.specs.Below.{overBelow}
 use Rattle.laws.proofs.Below.{over-start, over-more}
-use Rattle.lockstep.specs.Rule.{ruleOf}
+use Rattle.laws.specs.Mean.{ruleOf}
 use Rattle.lockstep.specs.Rounds.{nextBy, roundBy}
 use Rattle.laws.proofs.Below.{over-end}
 use Rattle.lockstep.proofs.Rounds.{mean-is-next}

@@ -4,7 +4,7 @@ use Prim.Native.Nat.{_-_, _≤_}
 use native.Mathlib.Omega.{arith}
 use mathlib.Core.Path.{_≡_, sym}
 use borrow.Author.Needs.{needs}
-use Rattle.lockstep.specs.Rule.{ruleOf}
+use Rattle.laws.specs.Mean.{ruleOf}
 use Rattle.lockstep.specs.Rounds.{roundsBy}
 use Rattle.lockstep.proofs.Rounds.{rounds-start, rounds-more, rounds-end}
 use Rattle.lockstep.proofs.values_after.Statement.{statement}

@@ -1,6 +1,6 @@
 -- `rounds::mean` is safe and ends: q counts up to 64. After q nodes the sum is at most 65,535 for
--- the own value and for each of them, and the neighbours are at most q, so both fit, and the
--- divisor is not 0. Assumes nothing.
+-- the own value and for each of them, and the neighbours are at most q, so both fit, and there
+-- is something to divide by. Assumes nothing.
 use borrow.Author.Needs.{needs}
 use Prim.Native.Nat.{_≤_, _-_, _+_, _*_}
 use Rattle.second.proofs.rounds.mean.Statement.{statement}
@@ -15,4 +15,4 @@ abbrev μ-loop : tie.MeasureT-loop
 pub mean-spec : {M : Type 1} → statement M
 mean-spec =
     tie.close
-    (tie.spec Inv-loop μ-loop (λ c κs. search needs) (λ c. search needs) (λ c κs. search needs) (λ c. search needs) (λ c κs. search needs) (λ c. search needs) (λ c. search needs) (λ c. search needs) (λ c. search needs) (λ c. search needs) (λ c. search needs) (λ c κs. search needs) (λ c. search needs))
+    (tie.spec Inv-loop μ-loop (λ c κs. search needs) (λ c. search needs) (λ c κs. search needs) (λ c. search needs) (λ c κs. search needs) (λ c. search needs) (λ c. search needs) (λ c. search needs) (λ c. search needs) (λ c. search needs) (λ c κs. search needs) (λ c κs. search needs) (λ c. search needs))

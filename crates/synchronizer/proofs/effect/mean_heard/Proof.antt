@@ -3,7 +3,8 @@
 
 use mathlib.Core.Path.{_∙_, ap}
 use Rattle.nodeset.proofs.Members.{values-same}
-use Rattle.lockstep.specs.Rule.{ruleOf, meanOf}
+use Rattle.laws.specs.Mean.{ruleOf}
+use Rattle.lockstep.specs.Rule.{meanOf}
 use Rattle.synchronizer.specs.After.{meanHeard}
 use borrow.Author.Needs.{needs}
 use Rattle.synchronizer.proofs.effect.mean_heard.Statement.{statement}
