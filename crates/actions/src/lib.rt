@@ -1,12 +1,14 @@
 // The twenty kinds of action: their numbers, their bodies, where their counts stand, and document 01's table of what each names, needs and
 // does. And the reader of one action's record.
+#![tactic(auto)]
+
 ghost use Rattle.std.specs.Prelude.{◌≡◌, ◌<◌, ◌*◌, length};
 ghost use Rattle.actions.specs.Kinds.{number_of, kinds, index_of, cell_of};
 ghost use Rattle.actions.specs.Table.{place_of, own_of, knows_by, may_go_by, need_of, every_of, does_of};
 ghost use Rattle.actions.specs.Records.{body_table, read_at};
 
 // In document 01's order and words.
-#[derive(Drop)]
+#[derive(Clone, Copy)]
 pub enum Kind {
     Output,
     PacketSent,
@@ -95,7 +97,7 @@ pub fn index(kind: Kind) -> usize
 }
 
 // One count: of a kind, at a node or along a direction.
-#[derive(Drop)]
+#[derive(Clone, Copy)]
 pub struct Counter(pub Kind, pub u8);
 
 // Where a count stands: each kind has a row of 256.
@@ -108,7 +110,7 @@ pub fn cell(c: Counter) -> usize
 }
 
 // What a body has to name, by the refusals 13 and 14.
-#[derive(Drop)]
+#[derive(Clone, Copy)]
 pub enum Place {
     Node,
     Link,
@@ -145,7 +147,7 @@ pub fn place_of(kind: Kind) -> Place
 }
 
 // What an action finds around its nodes p and q: the directions from p to q and back, p's parent, and whether p and that parent is a root.
-#[derive(Drop)]
+#[derive(Clone, Copy)]
 pub struct Around {
     pub lane: u8,
     pub back: u8,
@@ -216,7 +218,7 @@ pub fn need_of(kind: Kind, p: u8, a: Around) -> Counter
 }
 
 // Whose counts besides have to be above the action's own: the word of each, delivered to p.
-#[derive(Drop)]
+#[derive(Clone, Copy)]
 pub enum Every {
     Nobody,
     Neighbour(Kind),
@@ -252,7 +254,7 @@ pub fn every_of(kind: Kind) -> Every
 }
 
 // What an action asks of a queue and does besides counting.
-#[derive(Drop)]
+#[derive(Clone, Copy)]
 pub enum Does {
     Starts,
     Counts,
@@ -291,7 +293,7 @@ pub fn does_of(kind: Kind) -> Does
 }
 
 // An action's record: what is read at a place.
-#[derive(Drop)]
+#[derive(Clone, Copy)]
 pub enum Record {
     Unknown,
     Short,

@@ -1,5 +1,7 @@
 // The bench program: a trial file on standard input, document 01's lines on standard output. No contract can say what is read or written, so
 // all that is judged stands in `report`; this reads to the end, calls it and writes.
+#![tactic(auto)]
+
 use input::read_all;
 use libc::STDOUT_FILENO;
 

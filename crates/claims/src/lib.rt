@@ -1,5 +1,7 @@
 // Who claims whom when the clusters are laid out from the links: "take the lowest unclaimed node as a root, claim unclaimed nodes breadth first
 // down to that depth (who was claimed earlier claims first, each its lowest neighbours first), and repeat." (document 02, W4)
+#![tactic(auto)]
+
 ghost use Rattle.std.specs.Prelude.{◌≡◌, ◌<◌, ◌≤◌, min};
 ghost use Rattle.claims.specs.Claiming.{put, all_nodes, nobody, rooted, claims_all, spread, step, parents_of};
 ghost use Rattle.claims.specs.Sound.{nodes_of, Sound};
@@ -8,7 +10,7 @@ use network::at_most;
 use nodeset::NodeSet;
 
 // The claims so far.
-#[derive(Drop)]
+#[derive(Clone, Copy)]
 struct Claiming {
     // how many nodes are claimed, and who is not
     count: usize,

@@ -1,5 +1,7 @@
 // The clusters of a plan: checks 8 and 9, and how many clusters there are. A cluster is told by its root, so both checks go by the table of
 // the roots of all nodes.
+#![tactic(auto)]
+
 ghost use Rattle.std.specs.Prelude.{◌≡◌, ◌<◌, ◌≤◌, min, eqb};
 ghost use Rattle.laws.specs.Choice.{if_b};
 ghost use Rattle.laws.specs.Below.{count_below, first_of};

@@ -1,5 +1,7 @@
 // What the words of the program `desk` print, a function a word: from the bytes on standard input and the arguments to what goes to standard output
 // and to standard error, in two lent buffers.
+#![tactic(auto)]
+
 ghost use Rattle.std.specs.Prelude.{◌≡◌};
 ghost use Rattle.commands.specs.Words.{word_of};
 ghost use Rattle.commands.specs.Streams.{Fits, Prints, refused_with, layout_streams};
@@ -8,7 +10,7 @@ use records::ACCEPTED;
 use report::{LONGEST, PAGE, TOO_LONG, end_only, whole};
 
 // The words of `desk`, and what is none of them.
-#[derive(Drop)]
+#[derive(Clone, Copy)]
 pub enum Word {
     Layout,
     Unknown,
@@ -25,7 +27,7 @@ pub fn word_of(bytes: &[u8]) -> Word
 }
 
 // How many bytes go to standard output and how many to standard error: those at the start of the buffers lent for them.
-#[derive(Drop)]
+#[derive(Clone, Copy)]
 pub struct Printed {
     pub output: usize,
     pub errors: usize,

@@ -1,5 +1,7 @@
 // The bench's network and state beside the second simulator's, number by number, and a tally of what was compared. What is proved of it is
 // that every call is safe and ends.
+#![tactic(auto)]
+
 pub mod networks;
 pub mod states;
 pub mod tally;

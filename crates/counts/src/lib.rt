@@ -1,4 +1,6 @@
 // What the counts of a state say: how often each action was taken, and whether a word has come for the round that is next.
+#![tactic(auto)]
+
 ghost use Rattle.std.specs.Prelude.{◌≡◌, true, ◌<◌, ltb};
 ghost use Rattle.actions.specs.Kinds.{count_in};
 ghost use Rattle.counts.specs.Counts.{children_have};

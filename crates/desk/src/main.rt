@@ -1,5 +1,7 @@
 // The program for the desk: the first argument is a word, and what the word works on stands on standard input. No contract can say what is read or
 // written, so all that is judged stands in `commands`; this reads the arguments and the input to its end, calls it and writes.
+#![tactic(auto)]
+
 use commands::{Word, word_of};
 use input::{Number, decimal, read_all};
 use libc::{STDERR_FILENO, STDOUT_FILENO};

@@ -1,5 +1,7 @@
 // What the trials are made of, drawn from a seed: valid plans, plans to be laid out, and one thing wrong in a plan's bytes or in a list's.
 // What is proved of it is that every call is safe and ends.
+#![tactic(auto)]
+
 pub mod bytes;
 pub mod damage;
 pub mod dice;

@@ -36,7 +36,7 @@ pub const BACKWARDS: usize = 1;
 pub const SHUFFLED: usize = 2;
 
 // What is asked of a plan. One node in `cut` is a root besides the first; none where that is 0.
-#[derive(Drop)]
+#[derive(Clone, Copy)]
 pub struct Wish {
     pub nodes: usize,
     pub links: usize,

@@ -1,6 +1,8 @@
 // Networks and states as a caller may hand them in: with one entry changed, so that a clause of 17 applies; networks that no plan gives and
 // 17 lets pass; states that no run comes to, with queues full or at odds with the counts. What is proved of it is that every call is safe
 // and ends.
+#![tactic(auto)]
+
 use compare::networks::{network_of, plan_of};
 use compare::states::{CODES, NUMBERS, Numbers, number, set_number, used_by};
 use draws::dice::{below, once_in};

@@ -1,4 +1,6 @@
 // What the programs are given: standard input to its end, and the decimal numbers among their arguments.
+#![tactic(auto)]
+
 ghost use Rattle.std.specs.Prelude.{◌≡◌, ◌+◌, ◌≤◌, length};
 ghost use Rattle.io.specs.Counts.{IsPrefixLen};
 ghost use Rattle.input.specs.Number.{with_digit, number_of};
@@ -6,7 +8,7 @@ ghost use Rattle.input.specs.Number.{with_digit, number_of};
 use libc::STDIN_FILENO;
 
 // How many bytes came, and whether a read failed.
-#[derive(Drop)]
+#[derive(Clone, Copy)]
 pub struct Input {
     pub count: usize,
     pub failed: bool,
@@ -55,7 +57,7 @@ pub fn read_all(buffer: &mut [u8]) -> Input
 }
 
 // The number that digits say, or that there is none.
-#[derive(Drop)]
+#[derive(Clone, Copy)]
 pub enum Number {
     Is(usize),
     Nothing,

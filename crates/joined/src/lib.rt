@@ -1,5 +1,7 @@
 // Whether all nodes are joined through links: check 10 of a plan. The walk starts at node 0 and keeps two sets, the nodes reached and the nodes
 // still to visit, lowest number first; it assumes nothing of the checks before it.
+#![tactic(auto)]
+
 ghost use Rattle.std.specs.Prelude.{◌≡◌, not, ◌≤◌};
 ghost use Rattle.laws.specs.Below.{first_of};
 ghost use Rattle.nodeset.specs.Marks.{member, lowest_of};
@@ -10,7 +12,7 @@ use network::{Network, at_most};
 use nodeset::NodeSet;
 
 // The nodes reached so far, and those of them that are still to visit.
-#[derive(Drop)]
+#[derive(Clone, Copy)]
 struct Walk {
     reached: NodeSet,
     todo: NodeSet,

@@ -1,5 +1,7 @@
 // "Lay out the clusters from the wire list": a plan whose parents and flags nobody filled in, and a depth, in; the same plan with its clusters laid
 // out, in a lent buffer. (document 02, W4)
+#![tactic(auto)]
+
 ghost use Rattle.std.specs.Prelude.{◌≡◌, ℕ, ◌+◌, ◌*◌, ◌<◌, ◌≤◌, length};
 ghost use Rattle.laws.specs.Lists.{Bytes};
 ghost use Rattle.layout.specs.Layout.{copied, with_fields, flag_by, met_with, first_flags, Clustered, LaysOut, laid_over, layout_of, laid_in};
@@ -31,7 +33,7 @@ const LINK_WIDTH: usize = 4;
 const FLAG_AT: usize = 3;
 
 // The answer to a layout: 0 and the plan's length, which is how many bytes were written; or the number of a refusal and its place.
-#[derive(Drop)]
+#[derive(Clone, Copy)]
 pub struct Laid {
     pub number: u8,
     pub place: usize,

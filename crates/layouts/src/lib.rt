@@ -1,5 +1,7 @@
 // Plans laid out by the bench and by the second simulator, from the same bytes, at the same depth and in the same buffer, and everything that
 // comes back compared. What is proved of it is that every call is safe and ends.
+#![tactic(auto)]
+
 use compare::tally::{Tally, begin, report_layouts, report_planted, same, same_answer, same_bytes};
 use draws::dice::below;
 use draws::numbers::{byte, minus, of_byte, plus};

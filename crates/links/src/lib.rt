@@ -1,5 +1,7 @@
 // The list of links of a network: which two nodes a link joins, and whether some link joins two nodes. What the whole-plan checks
 // 6, 9 and 10 say of links is said here.
+#![tactic(auto)]
+
 ghost use Rattle.std.specs.Prelude.{◌≡◌, ◌≤◌, min};
 ghost use Rattle.links.specs.Links.{pair_is, joins, link_between, has_link};
 

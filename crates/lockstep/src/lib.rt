@@ -1,4 +1,6 @@
 // The lockstep table: every node takes the mean of its own and its neighbours' values, all at once, round after round.
+#![tactic(auto)]
+
 ghost use Rattle.std.specs.Prelude.{◌≡◌, ◌+◌, ◌*◌, ◌≤◌, ◌<◌, length, get_or};
 ghost use Rattle.laws.specs.Below.{over_below};
 ghost use Rattle.laws.specs.Mean.{share_of, rule_of};

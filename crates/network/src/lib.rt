@@ -1,5 +1,7 @@
 // The network by value: nodes with parents and start values, links with flags, and the sets that they give each node. And the network
 // half of answer 17, over any value of the struct.
+#![tactic(auto)]
+
 ghost use Rattle.std.specs.Prelude.{◌≡◌, ◌≤◌, ◌<◌, min, ltb, eqb, get_or, replicate};
 ghost use Rattle.laws.specs.Choice.{both};
 ghost use Rattle.laws.specs.Below.{all_below, list_below};
@@ -9,7 +11,7 @@ ghost use Rattle.network.specs.Valid.{within_limits, node_fits, rises, link_fits
 
 use nodeset::NodeSet;
 
-#[derive(Drop)]
+#[derive(Clone, Copy)]
 pub struct Network {
     pub nodes: usize,
     pub links: usize,

@@ -1,9 +1,11 @@
 // A set of node numbers: "64 yes-or-no marks, and its size is a count of them. An empty set, a set with one more node, and
 // membership are the set's own facts. A number above 63 is in no set, and adding it changes nothing." (document 01)
+#![tactic(auto)]
+
 ghost use Rattle.std.specs.Prelude.{◌≡◌};
 ghost use Rattle.nodeset.specs.Marks.{member, inserted, removed, size_of, lowest_of};
 
-#[derive(Drop)]
+#[derive(Clone, Copy)]
 pub struct NodeSet {
     pub marks: u64,
 }

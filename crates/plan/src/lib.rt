@@ -1,5 +1,7 @@
 // The plan reader: any bytes in, number, place and network out. "Plan checks, record by record from the start: 1, 2, 3, 4, 5 .. Then over
 // the whole plan, in this order: 6, 7, 8, 9, 10." (document 01)
+#![tactic(auto)]
+
 ghost use Rattle.std.specs.Prelude.{◌≡◌};
 ghost use Rattle.laws.specs.Lists.{Bytes};
 ghost use Rattle.plan.specs.Checks.{checks_of, plan_of};

@@ -1,5 +1,7 @@
 // "Each direction of a link is one queue, first in first out, shared by packets and acks, with room for two." Direction d has the places 2 d
 // and 2 d + 1 of the arrays of sorts and loads.
+#![tactic(auto)]
+
 ghost use Rattle.std.specs.Prelude.{◌≡◌, get_or};
 ghost use Rattle.queue.specs.Queue.{head_of, packet_first, ack_first, room_answer, queues, pushed, popped, heard_in};
 
@@ -8,7 +10,7 @@ pub const PACKET: u8 = 1;
 pub const ACK: u8 = 2;
 
 // The first message of a queue.
-#[derive(Drop)]
+#[derive(Clone, Copy)]
 pub enum Head {
     Packet(u16),
     Ack,

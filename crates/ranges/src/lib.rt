@@ -1,5 +1,7 @@
 // The state half of answer 17, over the arrays of any state. Each is gone through once from end to end, with what is wrong of each entry gathered
 // into one number, so that the loops go many entries at a time.
+#![tactic(auto)]
+
 ghost use Rattle.std.specs.Prelude.{◌≡◌, ◌+◌, ◌*◌, ◌/◌, ◌%◌, ◌<◌, ◌≤◌, min, leb, eqb, length, get_or};
 ghost use Rattle.laws.specs.Choice.{if_lt, if_eq};
 ghost use Rattle.laws.specs.Below.{all_below, list_below};

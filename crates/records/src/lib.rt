@@ -1,4 +1,6 @@
 // A plan's bytes, record by record: a cursor that reads one record, rules 1 to 5, and the lists of the network that the records give.
+#![tactic(auto)]
+
 ghost use Rattle.std.specs.Prelude.{◌≡◌, ◌+◌, ◌<◌, ◌≤◌, length};
 ghost use Rattle.records.specs.Record.{body_length, pair_of, record_at, read_at};
 ghost use Rattle.records.specs.Rules.{rounds_rule, node_rule, link_rule, end_rule, follows_of, rule_of};
@@ -20,7 +22,7 @@ pub const TOO_MANY: u8 = 4;
 pub const OUT_OF_RANGE: u8 = 5;
 
 // A record of a plan, by its kind: 0, 1, 2 and 3.
-#[derive(Drop)]
+#[derive(Clone, Copy)]
 pub enum Record {
     End,
     Rounds(u16),
@@ -30,7 +32,7 @@ pub enum Record {
 
 // What stands at an offset of the bytes: nothing, where they end; a byte that is no plan's kind; a kind whose body runs past the end; or
 // a record, with the cursor past it.
-#[derive(Drop)]
+#[derive(Clone, Copy)]
 pub enum Read {
     Nothing,
     Unknown,
@@ -38,14 +40,14 @@ pub enum Read {
     Whole(Record, Cursor),
 }
 
-#[derive(Drop)]
+#[derive(Clone, Copy)]
 pub struct Cursor {
     pub at: usize,
 }
 
 // What reading a plan comes to: 0, the bytes that the plan took and its network; or the number of a refusal, the place that document 01
 // gives it, and a network of zeros.
-#[derive(Drop)]
+#[derive(Clone, Copy)]
 pub struct Planned {
     pub number: u8,
     pub place: usize,

@@ -1,4 +1,6 @@
 // A whole trial: the bytes of a trial file in, document 01's lines out in a lent buffer.
+#![tactic(auto)]
+
 mod lines;
 
 ghost use Rattle.std.specs.Prelude.{◌≤◌, ◌≡◌, length};

@@ -1,5 +1,7 @@
 // Runs in random delivery orders, from the start state or another, broken off or to the end; then what was taken as a list, whole and
 // damaged; and single actions out of turn. What is proved of it is that every call is safe and ends.
+#![tactic(auto)]
+
 use calls::both::{Action, try_act, try_list, try_method, try_start};
 use compare::networks::plan_of;
 use compare::states::{Pairs, draw_state, of_directions, pair, pairs_of, same_state, used_by};
@@ -19,7 +21,7 @@ const LIST: usize = 20480;
 const ORDER: usize = 7296;
 
 // What a run has come to: the bench's state, and how many bytes the actions taken have.
-#[derive(Drop)]
+#[derive(Clone, Copy)]
 struct Walk {
     state: State,
     size: usize,

@@ -20,6 +20,7 @@
 // is a cell of a node's sheet that no node has: (p, p) with p not below the node count, or any
 // (p, q) with p other than q. An entry past the links is a cell of a direction's sheet whose two
 // nodes have no link, as (p, p) always is.
+#![tactic(auto)]
 
 mod lists;
 mod needs;

@@ -2,6 +2,8 @@
 // proved crate.
 //
 //   layout    bytes and a depth in, the plan laid out in a lent buffer: answers 0 to 5, 10, 22 and 23
+#![tactic(auto)]
+
 mod claiming;
 mod flags;
 mod paths;

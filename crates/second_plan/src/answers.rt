@@ -47,7 +47,7 @@ pub const TOO_DEEP: u8 = 22;
 pub const NO_ROOM_FOR_PLAN: u8 = 23;
 
 // An answer's number and its place; of a list of actions, also how many were taken.
-#[derive(Drop)]
+#[derive(Clone, Copy)]
 pub struct Answer {
     pub number: u8,
     pub place: usize,

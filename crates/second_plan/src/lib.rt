@@ -5,6 +5,7 @@
 //   read_plan                   bytes to a network: answers 0 to 10
 //   read_records, unjoined      answers 0 to 5 of the records alone, and check 10 alone
 //   clusters                    how many roots a network has
+#![tactic(auto)]
 
 pub mod answers;
 pub mod bytes;

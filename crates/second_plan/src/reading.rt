@@ -21,7 +21,7 @@ fn body(kind: usize) -> usize {
 }
 
 // What the records of a plan come to.
-#[derive(Drop)]
+#[derive(Clone, Copy)]
 struct Records {
     number: u8,
     place: usize,

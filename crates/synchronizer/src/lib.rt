@@ -1,4 +1,6 @@
 // The synchronizer: a state by value, its start, the state half of answer 17, the twenty actions, one action from bytes and a list of them.
+#![tactic(auto)]
+
 mod effect;
 mod entry;
 mod lanes;
@@ -19,7 +21,7 @@ use actions::Kind;
 use network::Network;
 
 // What the bench holds between actions.
-#[derive(Drop)]
+#[derive(Clone, Copy)]
 pub struct State {
     // how often each action was taken: a row of 256 for each kind, by node or by direction
     pub counts: [u16; 5120],
@@ -35,14 +37,14 @@ pub struct State {
 
 // An action's answer, and the state that follows it. The state stands first: no byte is left over between the two, and a state that is handed
 // on is copied as one.
-#[derive(Drop)]
+#[derive(Clone, Copy)]
 pub struct Done {
     pub state: State,
     pub answer: u8,
 }
 
 // One action from bytes: with answer 0 the place is the bytes read.
-#[derive(Drop)]
+#[derive(Clone, Copy)]
 pub struct Acted {
     pub answer: u8,
     pub place: usize,
@@ -50,7 +52,7 @@ pub struct Acted {
 }
 
 // A list of actions: where it stopped, and how many were taken.
-#[derive(Drop)]
+#[derive(Clone, Copy)]
 pub struct Ran {
     pub answer: u8,
     pub place: usize,

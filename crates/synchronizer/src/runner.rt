@@ -8,7 +8,7 @@ use crate::effect::take;
 use actions::{Record, read};
 
 // The answer to the record at a place, and the bytes read of an action that is taken.
-#[derive(Drop)]
+#[derive(Clone, Copy)]
 pub struct Did {
     pub answer: u8,
     pub used: usize,
@@ -61,7 +61,7 @@ pub(crate) fn turn<'a>(
 }
 
 // Where a list stopped: the answer, the place, and how many were taken.
-#[derive(Drop)]
+#[derive(Clone, Copy)]
 pub struct Ended {
     pub answer: u8,
     pub place: usize,

@@ -18,7 +18,7 @@ use nodeset::NodeSet;
 use queue::{ack_first, packet_first, room};
 
 // An answer; and where it is 0, at which node or direction the action's own count stands.
-#[derive(Drop)]
+#[derive(Clone, Copy)]
 pub struct Shown {
     pub answer: u8,
     pub sub: u8,

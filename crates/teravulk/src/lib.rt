@@ -1,4 +1,6 @@
 // The library for C and Rust: a whole trial, and a plan's layout. `include/teravulk.h` says the promises in words.
+#![tactic(auto)]
+
 ghost use Rattle.std.specs.Prelude.{◌≤◌, ◌≡◌, length};
 ghost use Rattle.layout.specs.Layout.{layout_of, laid_in};
 ghost use Rattle.laws.specs.Lists.{Bytes};

@@ -1,5 +1,7 @@
 // Text in a lent buffer: bytes, and lines of a word and decimal numbers, from a place on. No call asks for room: what would stand past the
 // end of the buffer is left out, and the answer is the place where the writing stopped.
+#![tactic(auto)]
+
 ghost use Rattle.std.specs.Prelude.{◌≡◌, [], ◌∷◌, ◌+◌, ◌<◌};
 ghost use Rattle.text.specs.Lines.{glyph, decimal, fields, line as line_of};
 ghost use Rattle.text.specs.Put.{Put};

@@ -1,4 +1,6 @@
 // The tree of parents: checks 6 and 7 of a plan, and the root that a node's parents lead to.
+#![tactic(auto)]
+
 ghost use Rattle.std.specs.Prelude.{◌≡◌, ◌≤◌, min};
 ghost use Rattle.laws.specs.Below.{first_of};
 ghost use Rattle.tree.specs.Climb.{parent_in, root_from, root_number, lost};
@@ -8,7 +10,7 @@ use links::has_link;
 use network::{Network, at_most};
 
 // What following the parents comes to: a root, or none within the steps that were left.
-#[derive(Drop)]
+#[derive(Clone, Copy)]
 pub enum Climb {
     Root(u8),
     None,

@@ -1,5 +1,7 @@
 // Trials of the bench against the second simulator. Each side gets the same bytes, networks, states and buffers, and every answer, place,
 // count, value, state and buffer that comes back is compared. What is tried is drawn from a seed, so that every run tries the same.
+#![tactic(auto)]
+
 mod known;
 mod planted;
 mod reading;
