@@ -1,0 +1,10 @@
+-- `knows`: by whether the node is a root.
+use borrow.Author.Rules.{rules}
+use Rattle.laws.proofs.Choice.{picks}
+use Rattle.actions.proofs.knows.Goals as goal
+
+pub returns-then-root : goal.returns-then-root
+returns-then-root c = search (rules, picks)
+
+pub returns : goal.returns
+returns c = search (rules, picks)

@@ -1,0 +1,12 @@
+-- `refused`: the end line is all that is written.
+use native.Mathlib.Omega.{arith}
+use Rattle.commands.proofs.Buffers.{nothing_written, nothing_filled}
+use Rattle.commands.proofs.refused.Goals as goal
+
+pub returns : goal.returns
+returns c =
+    let ended = c.end_only.ensures in
+    let output = c.args.output.now in (
+      record { counts = λ i. record { output = nothing_written output i; errors = ended.0 i }; on_output = nothing_filled output; on_errors = ended.1.0 },
+      record { output_fits = omega arith; errors_fit = ended.1.1 },
+    )

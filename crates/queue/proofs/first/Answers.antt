@@ -1,0 +1,16 @@
+-- `first`: the tests are the definition's, in its order.
+use Rattle.laws.proofs.Choice.{picks}
+use borrow.Author.Rules.{rules}
+use Rattle.queue.proofs.first.Goals as goal
+
+pub returns-then-lens-i-eq0 : goal.returns-then-lens-i-eq0
+returns-then-lens-i-eq0 c = search (rules, picks)
+
+pub returns-then-sort-eq-PACKET : goal.returns-then-sort-eq-PACKET
+returns-then-sort-eq-PACKET c = search (rules, picks)
+
+pub returns-then-sort-eq-ACK : goal.returns-then-sort-eq-ACK
+returns-then-sort-eq-ACK c = search (rules, picks)
+
+pub returns : goal.returns
+returns c = search (rules, picks)

@@ -1,0 +1,15 @@
+-- `sorts_fit`: what was gathered over the places so far is 0 exactly where each of them has the sort that it may have.
+use Prim.Native.Nat.{◌-◌, ◌≤◌}
+use mathlib.Core.Path.{◌≡◌}
+use lib.Dec.{eqb}
+use lib.ListN.{get_or}
+use Rattle.laws.specs.Below.{all_below}
+use Rattle.ranges.specs.Fits.{sort_fits}
+use Rattle.ranges.proofs.sorts_fit.Given as goal
+
+abbrev pub invariant-loop-e : goal.invariant-loop-e
+invariant-loop-e l =
+    (l.e ≤ 512) × (eqb l.faults 0 ≡ all_below (λ k. sort_fits (get_or l.places k 0) 0 (get_or l.sorts k 0)) l.e)
+
+abbrev pub decreases-loop-e : goal.decreases-loop-e
+decreases-loop-e l = 512 - l.e

@@ -1,0 +1,16 @@
+-- `rounds_rule`: each return is the guard of `rounds_rule` that its tests lead to.
+use borrow.Author.Rules.{rules}
+use Rattle.laws.proofs.Choice.{picks}
+use Rattle.records.proofs.rounds_rule.Goals as goal
+
+pub returns-then-rounds-gt0 : goal.returns-then-rounds-gt0
+returns-then-rounds-gt0 c = search (rules, picks)
+
+pub returns-then-v-eq0 : goal.returns-then-v-eq0
+returns-then-v-eq0 c = search (rules, picks)
+
+pub returns-then-v-gt10000 : goal.returns-then-v-gt10000
+returns-then-v-gt10000 c = search (rules, picks)
+
+pub returns : goal.returns
+returns c = search (rules, picks)

@@ -1,0 +1,9 @@
+-- `ranges::any_wrong_entry` is safe and ends: i counts up to the number of entries, and the row and
+use Prim.Native.Nat.{◌≤◌, ◌-◌}
+use Rattle.second.proofs.ranges.any_wrong_entry.Given as goal
+
+abbrev pub invariant-loop-i : goal.invariant-loop-i
+invariant-loop-i l = l.i ≤ 1152
+
+abbrev pub decreases-loop-i : goal.decreases-loop-i
+decreases-loop-i l = 1152 - l.i

@@ -1,0 +1,9 @@
+-- `rounds::enter_start_values` is safe and ends: p counts up to 64, and each call in the loop takes
+use Prim.Native.Nat.{◌≤◌, ◌-◌}
+use Rattle.second.proofs.rounds.enter_start_values.Given as goal
+
+abbrev pub invariant-loop-p : goal.invariant-loop-p
+invariant-loop-p l = l.p ≤ 64
+
+abbrev pub decreases-loop-p : goal.decreases-loop-p
+decreases-loop-p l = 64 - l.p

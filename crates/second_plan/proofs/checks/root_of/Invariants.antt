@@ -1,0 +1,9 @@
+-- `checks::root_of` is safe and ends: the steps up are counted to 64, whatever the parents are: a
+use Prim.Native.Nat.{◌≤◌, ◌-◌}
+use Rattle.second_plan.proofs.checks.root_of.Given as goal
+
+abbrev pub invariant-loop : goal.invariant-loop
+invariant-loop l = l.counter ≤ 64
+
+abbrev pub decreases-loop : goal.decreases-loop
+decreases-loop l = 64 - l.counter

@@ -1,0 +1,9 @@
+-- `checks::spread_all` is safe and ends: l counts up to 128, and each call in the loop takes any
+use Prim.Native.Nat.{◌≤◌, ◌-◌}
+use Rattle.second_plan.proofs.checks.spread_all.Given as goal
+
+abbrev pub invariant-loop-l : goal.invariant-loop-l
+invariant-loop-l l = l.l ≤ 128
+
+abbrev pub decreases-loop-l : goal.decreases-loop-l
+decreases-loop-l l = 128 - l.l

@@ -1,0 +1,9 @@
+-- `nodes::enter_sets` is safe and ends: i counts up to 128, and each call in the loop takes any
+use Prim.Native.Nat.{◌≤◌, ◌-◌}
+use Rattle.second_plan.proofs.nodes.enter_sets.Given as goal
+
+abbrev pub invariant-loop-i : goal.invariant-loop-i
+invariant-loop-i l = l.i ≤ 128
+
+abbrev pub decreases-loop-i : goal.decreases-loop-i
+decreases-loop-i l = 128 - l.i

@@ -1,0 +1,5 @@
+-- `children_told`: the walk, at the action's own count and p's set.
+use Rattle.synchronizer.proofs.test.children_told.Goals as goal
+
+pub returns : goal.returns
+returns c = rw (← c.cell-at.ensures.0) c.children_have.ensures

@@ -1,0 +1,18 @@
+use borrow.Author.Rules.{rules}
+use Prim.Native.Nat.{◌-◌}
+use mathlib.Core.Path.{sym, ◌∙◌}
+use Rattle.laws.proofs.Below.{first_start, first_more, first_found, first_end}
+use Rattle.tree.proofs.lowest_untied.Goals as goal
+
+pub loop-p-init : goal.loop-p-init
+loop-p-init c = (search rules, first_start _)
+
+pub returns-then-is_untied : goal.returns-then-is_untied
+returns-then-is_untied c = first_found _ _ _ (search rules) c.loop-p.invariant.1 (sym c.is_untied.ensures ∙ c.if-is_untied.true)
+
+pub loop-p-preserved : goal.loop-p-preserved
+loop-p-preserved c =
+    (search rules, first_more _ _ c.loop-p.invariant.1 (sym c.is_untied.ensures ∙ c.if-is_untied.false))
+
+pub returns : goal.returns
+returns c = first_end _ _ _ c.loop-p.invariant.1 (search rules) (search rules)
