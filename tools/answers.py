@@ -28,6 +28,21 @@ class Names:
         for (old, parent, (so, sn), _, _), new in zip(entry["places"], entry["places_by_name"]):
             self.steps.setdefault(norm(so), []).append(sn)
             self.up[norm(old)] = new
+        # what an arm of a match knows: (old step, old path) -> new path
+        self.arms = {}
+        self.arm_of = {}
+        parents = {}
+        for (old, parent, (so, sn), _, _), arm in zip(entry["places"], entry["arms"]):
+            parents[old] = parent
+            if arm:
+                self.arm_of[old] = arm[0]
+                for field, step, path in arm[2]:
+                    self.arms[(norm(step), tuple(path))] = f"{arm[0]}.{field}"
+        self.arm_at = []
+        for old, _ in entry["asked_at"]:
+            while old and old not in self.arm_of:
+                old = parents.get(old)
+            self.arm_at.append(self.arm_of.get(old))
         self.loops = entry["loops"]
         self.changed = entry["changed"]
 
@@ -79,6 +94,9 @@ def paths(body, names, fn, var="c", aliases=()):
             rest[0] = "well_formed"
         elif norm(first) in KEEP_FIELDS:
             rest[0] = norm(first)
+        elif any((norm(first), tuple(map(norm, rest[1:k]))) in names.arms for k in range(len(rest), 0, -1)):
+            k = next(k for k in range(len(rest), 0, -1) if (norm(first), tuple(map(norm, rest[1:k]))) in names.arms)
+            rest = [names.arms[(norm(first), tuple(map(norm, rest[1:k])))], *rest[k:]]
         else:
             new = names.step(first)
             if new is None:
@@ -104,6 +122,9 @@ def place_lets(body, var="c"):
 
 def turn_body(body, names, fn, helpers, goal, inside=False):
     """The text right of the `=`."""
+    arm = next((names.arm_at[i] for i, (_, g) in enumerate(names.order) if g == goal), None)
+    if arm:
+        body = re.sub(r"search \(rules, told [^\s()]+\)", f"rw c.{arm}.is refl", body)
     aliases, body = place_lets(body)
     body = paths(body, names, fn, "c", aliases)
     # an earlier place handed to a lemma of this file
@@ -152,6 +173,8 @@ def imports(head, text, extra):
                 kept.append(n)
         if kept:
             out.append(f"use {m.group(1)}.{{{', '.join(kept)}}}")
+    if re.search(r"(?<![\w.'-])refl(?![\w'-])", text) and not any(re.search(r"[{ ]refl[,}]", x) for x in out):
+        out = ["use mathlib.Core.Path.{refl}", *out]
     return out + extra
 
 
@@ -281,11 +304,12 @@ def turn(crate, path, entry):
                                 out.append((goal, got))
                         continue
                     l = re.match(r"\(λ c(?: κs)?\. (.*)\)$", a, re.S)
+                    un = "".join(x + "\n" for x in spec.split("\n") if x.startswith("unfolding "))
                     if l:
                         body = turn_body(" " + l.group(1), names, module, helpers, goal)
                         if goal == names.order and False:
                             pass
-                        out.append((goal, f"pub {goal} : goal.{goal}\n{goal} c ={body}"))
+                        out.append((goal, f"pub {goal} : goal.{goal}\n{un}{goal} c ={body}"))
                     elif a in helpers:
                         out.append((goal, f"pub {goal} : goal.{goal}\n{goal} c = {a} (goal.at.{goal} c).{helpers[a]}"))
                     else:
@@ -337,6 +361,48 @@ def turn(crate, path, entry):
     return "UNKNOWN" in inv_text + ans_text
 
 
+def attribute(crate, folder):
+    """Where each answer only opens a definition at an arm, the function says so in its attribute, and no file is needed."""
+    path = folder + "/Answers.antt"
+    if not os.path.exists(path) or os.path.exists(folder + "/Invariants.antt"):
+        return
+    text = open(path, encoding="utf-8").read()
+    uses = {}
+    for m in re.finditer(r"use ([^{\n]+)\.\{([^}]*)\}", text):
+        for n in m.group(2).split(","):
+            uses[n.strip()] = m.group(1)
+    opened = []
+    for b in re.split(r"\n\n", text)[1:]:
+        lines = b.strip().split("\n")
+        lines = [x for x in lines if not x.startswith("--")]
+        if not re.fullmatch(r"\S+ c = rw c\.\S+\.is refl", lines[-1]):
+            return
+        for x in lines:
+            if x.startswith("unfolding "):
+                opened += [n for n in x.split()[1:] if n not in opened]
+    if not opened or any(n not in uses or not re.fullmatch(r"\w+", n) for n in opened):
+        return
+    name = os.path.basename(folder)
+    found = []
+    for f, _, fs in os.walk(f"crates/{crate}/src"):
+        for s in fs:
+            src = open(os.path.join(f, s), encoding="utf-8").read()
+            found += [(os.path.join(f, s), m.start()) for m in re.finditer(r"(?m)^ *(?:pub(?:\(crate\))? )?fn " + name + r"\(", src)]
+    if len(found) != 1:
+        return
+    words = []
+    for n in opened:
+        parts = uses[n].split(".")
+        words.append("::".join((["crate"] if parts[1] == crate else [parts[1]]) + parts[2:] + [n]))
+    src = open(found[0][0], encoding="utf-8").read()
+    at = found[0][1]
+    src = src[:at] + f"#[tactic(auto, unfolding({', '.join(words)}))]\n" + src[at:]
+    open(found[0][0], "w", encoding="utf-8").write(src)
+    os.remove(path)
+    os.rmdir(folder)
+    print("by its attribute:", folder)
+
+
 def main():
     crate, table = sys.argv[1], json.load(open(sys.argv[2]))
     bad = 0
@@ -354,6 +420,7 @@ def main():
             if turn(crate, os.path.join(folder, "Proof.antt"), entry):
                 print("look:", folder)
                 bad += 1
+            attribute(crate, folder)
         except Exception as e:
             print("failed:", folder, repr(e))
             bad += 1

@@ -61,6 +61,7 @@ const KINDS: [Kind; 20] = [
 // "twenty action kinds with the body length of each fixed: one or two node numbers"
 const BODIES: [u8; 20] = [1, 2, 2, 2, 2, 1, 1, 1, 1, 1, 1, 2, 2, 1, 1, 1, 1, 1, 1, 1];
 
+#[tactic(auto, unfolding(crate::specs::Kinds::number_of))]
 pub fn number(kind: Kind) -> u8
     ensures { result ≡ number_of kind }
 {
@@ -119,6 +120,7 @@ pub enum Place {
     Root,
 }
 
+#[tactic(auto, unfolding(crate::specs::Table::place_of))]
 pub fn place_of(kind: Kind) -> Place
     ensures { result ≡ place_of kind }
 {
@@ -226,6 +228,7 @@ pub enum Every {
     ChildAndPreferred(Kind, Kind),
 }
 
+#[tactic(auto, unfolding(crate::specs::Table::every_of))]
 pub fn every_of(kind: Kind) -> Every
     ensures { result ≡ every_of kind }
 {
@@ -265,6 +268,7 @@ pub enum Does {
     Means,
 }
 
+#[tactic(auto, unfolding(crate::specs::Table::does_of))]
 pub fn does_of(kind: Kind) -> Does
     ensures { result ≡ does_of kind }
 {

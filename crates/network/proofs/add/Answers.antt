@@ -5,6 +5,7 @@ use Rattle.network.specs.Sets.{added}
 use Rattle.network.proofs.add.Goals as goal
 
 pub returns-then-at-ge64 : goal.returns-then-at-ge64
+unfolding added
 returns-then-at-ge64 c = search (rules, picks)
 
 pub returns : goal.returns

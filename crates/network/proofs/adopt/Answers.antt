@@ -5,6 +5,7 @@ use Rattle.network.specs.Sets.{adopted}
 use Rattle.network.proofs.adopt.Goals as goal
 
 pub returns-then-p-q : goal.returns-then-p-q
+unfolding adopted
 returns-then-p-q c = search (rules, picks)
 
 pub returns : goal.returns

@@ -1,13 +1,12 @@
 -- `ack_first`: by what the first message is.
-use Rattle.laws.proofs.Choice.{told}
+use mathlib.Core.Path.{refl}
 use Rattle.queue.proofs.Heads.{no_ack}
-use borrow.Author.Rules.{rules}
 use Rattle.queue.specs.Queue.{ack_first}
 use Rattle.queue.proofs.ack_first.Goals as goal
 
 pub returns-in_default : goal.returns-in_default
-returns-in_default c = rw (← c.first-head.ensures) (no_ack c.first-head.result c.in-Ack.keys2)
+returns-in_default c = rw (← c.first-head.ensures) (no_ack c.first-head.result c.in_default.in_default-own.keys2)
 
 pub returns : goal.returns
 unfolding ack_first
-returns c = rw (← c.first-head.ensures) (search (rules, told ack_first))
+returns c = rw (← c.first-head.ensures) (rw c.UNKNOWN-in-Ack.is refl)

@@ -5,9 +5,9 @@ use Rattle.queue.proofs.deliver.Goals as goal
 pub returns-in_default : goal.returns-in_default
 returns-in_default c =
     let head = c.first-head in
-    (c.pop.ensures, rw (← head.ensures) (nothing_heard _ _ _ head.result c.in-Packet.keys2))
+    (c.pop.ensures, rw (← head.ensures) (nothing_heard _ _ _ head.result c.in_default.in_default-own.keys2))
 
 pub returns : goal.returns
 returns c =
     let head = c.first-head in
-    (c.pop.ensures, rw (← head.ensures) (packet_heard _ _ _ head.result _ c.head-1.given.1))
+    (c.pop.ensures, rw (← head.ensures) (packet_heard _ _ _ head.result _ c.in-Packet.is))

@@ -7,6 +7,7 @@ use Rattle.ranges.specs.Fits.{sort_fits}
 use Rattle.ranges.proofs.sort_fault.Goals as goal
 
 pub returns-then-sort-eq-PACKET : goal.returns-then-sort-eq-PACKET
+unfolding sort_fits
 returns-then-sort-eq-PACKET c = search (rules, picks)
 
 pub returns-then-sort-eq-ACK : goal.returns-then-sort-eq-ACK
@@ -18,4 +19,5 @@ unfolding sort_fits
 returns-then-held-gt0 c = search (rules, picks, sym (ne_eqb _ _ c.if-sort-eq-ACK.left))
 
 pub returns : goal.returns
+unfolding sort_fits
 returns c = search (rules, picks)

@@ -7,15 +7,15 @@ use Rattle.records.proofs.body_length.Goals as goal
 
 pub returns-in-0 : goal.returns-in-0
 unfolding body_length if_eq if_b
-returns-in-0 c = rw c.in-0.keys1
+returns-in-0 c = rw c.in-0.is
 
 pub returns-in-1 : goal.returns-in-1
 unfolding body_length if_eq if_b
-returns-in-1 c = rw c.in-0.keys2
+returns-in-1 c = rw c.in-1.is
 
 pub returns-in-2 : goal.returns-in-2
 unfolding body_length if_eq if_b
-returns-in-2 c = rw c.in-0.keys3
+returns-in-2 c = rw c.in-2.is
 
 pub returns-in_default : goal.returns-in_default
 unfolding body_length

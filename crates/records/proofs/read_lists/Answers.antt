@@ -50,19 +50,19 @@ pub returns-in-Nothing : goal.returns-in-Nothing
 returns-in-Nothing c =
     c.answer.ensures
     ∙ ap (answered out_of_order _) c.zeros-none.ensures
-    ∙ at_the_end c.loop-rec.invariant (sym c.read.ensures ∙ c.enum_told-1.given.1)
+    ∙ at_the_end c.loop-rec.invariant (sym c.read.ensures ∙ c.in-Nothing.is)
 
 pub returns-in-Unknown : goal.returns-in-Unknown
 returns-in-Unknown c =
     c.answer-in-Unknown.ensures
     ∙ ap (answered kind_unknown _) c.zeros-none.ensures
-    ∙ at_no_kind c.loop-rec.invariant (sym c.read.ensures ∙ c.enum_told-in-Unknown-1.given.1)
+    ∙ at_no_kind c.loop-rec.invariant (sym c.read.ensures ∙ c.in-Unknown.is)
 
 pub returns-in-Short : goal.returns-in-Short
 returns-in-Short c =
     c.answer-in-Short.ensures
     ∙ ap (answered cut_short _) c.zeros-none.ensures
-    ∙ at_cut_body c.loop-rec.invariant (sym c.read.ensures ∙ c.enum_told-in-Short-1.given.1)
+    ∙ at_cut_body c.loop-rec.invariant (sym c.read.ensures ∙ c.in-Short.is)
 
 pub rule-number-requires : goal.rule-number-requires
 rule-number-requires c = (turn (goal.at.rule-number-requires c).At-loop-rec).loop.invariant.few_links

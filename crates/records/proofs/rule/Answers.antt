@@ -5,10 +5,10 @@ pub returns-in-End : goal.returns-in-End
 returns-in-End c = cc
 
 pub returns-in-Rounds : goal.returns-in-Rounds
-returns-in-Rounds c = rw c.rec-1.given.1 c.rounds_rule.ensures
+returns-in-Rounds c = rw c.in-Rounds.is c.rounds_rule.ensures
 
 pub returns-in-Node : goal.returns-in-Node
-returns-in-Node c = rw c.rec-in-Node-1.given.1 c.node_rule.ensures
+returns-in-Node c = rw c.in-Node.is c.node_rule.ensures
 
 pub returns-in-Link : goal.returns-in-Link
-returns-in-Link c = rw (c.rec-in-Link-1.given.1, ← c.follows.ensures) c.link_rule.ensures
+returns-in-Link c = rw (c.in-Link.is, ← c.follows.ensures) c.link_rule.ensures

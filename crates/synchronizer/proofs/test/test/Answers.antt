@@ -24,80 +24,80 @@ subtree_go_sent-requires c = (search rules, c.requires.1 c.args.p c.if-nodes-p.f
 
 pub returns-in-Output : goal.returns-in-Output
 unfolding own_in own_of place_of
-returns-in-Output c = test_told _ _ _ _ _ _ _ c.enum_told-1.given.1 (shows_as _ _ _ _ _ _ (sym (answer_of_output _ _ _ _ c.if-nodes-p.false c.if-nodes-q.false)) c.output.ensures)
+returns-in-Output c = test_told _ _ _ _ _ _ _ c.in-Output.is (shows_as _ _ _ _ _ _ (sym (answer_of_output _ _ _ _ c.if-nodes-p.false c.if-nodes-q.false)) c.output.ensures)
 
 pub returns-in-PacketSent : goal.returns-in-PacketSent
 unfolding place_of own_in own_of need_of every_of does_of stands_in starts_round every_has queue_answer around_of if_b
-returns-in-PacketSent c = row_told _ _ _ _ _ _ _ c.enum_told-in-PacketSent-1.given.1 c.if-nodes-p.false c.if-nodes-q.false refl c.packet_sent.ensures
+returns-in-PacketSent c = row_told _ _ _ _ _ _ _ c.in-PacketSent.is c.if-nodes-p.false c.if-nodes-q.false refl c.packet_sent.ensures
 
 pub returns-in-PacketDelivered : goal.returns-in-PacketDelivered
 unfolding place_of own_in own_of need_of every_of does_of stands_in starts_round every_has queue_answer around_of if_b
-returns-in-PacketDelivered c = row_told _ _ _ _ _ _ _ c.enum_told-in-PacketDelivered-1.given.1 c.if-nodes-p.false c.if-nodes-q.false refl c.packet_delivered.ensures
+returns-in-PacketDelivered c = row_told _ _ _ _ _ _ _ c.in-PacketDelivered.is c.if-nodes-p.false c.if-nodes-q.false refl c.packet_delivered.ensures
 
 pub returns-in-AckSent : goal.returns-in-AckSent
 unfolding place_of own_in own_of need_of every_of does_of stands_in starts_round every_has queue_answer around_of if_b
-returns-in-AckSent c = row_told _ _ _ _ _ _ _ c.enum_told-in-AckSent-1.given.1 c.if-nodes-p.false c.if-nodes-q.false refl c.ack_sent.ensures
+returns-in-AckSent c = row_told _ _ _ _ _ _ _ c.in-AckSent.is c.if-nodes-p.false c.if-nodes-q.false refl c.ack_sent.ensures
 
 pub returns-in-AckDelivered : goal.returns-in-AckDelivered
 unfolding place_of own_in own_of need_of every_of does_of stands_in starts_round every_has queue_answer around_of if_b
-returns-in-AckDelivered c = row_told _ _ _ _ _ _ _ c.enum_told-in-AckDelivered-1.given.1 c.if-nodes-p.false c.if-nodes-q.false refl c.ack_delivered.ensures
+returns-in-AckDelivered c = row_told _ _ _ _ _ _ _ c.in-AckDelivered.is c.if-nodes-p.false c.if-nodes-q.false refl c.ack_delivered.ensures
 
 pub returns-in-Ok : goal.returns-in-Ok
 unfolding place_of own_in own_of need_of every_of does_of stands_in starts_round every_has queue_answer around_of if_b
-returns-in-Ok c = row_told _ _ _ _ _ _ _ c.enum_told-in-Ok-1.given.1 c.if-nodes-p.false c.if-nodes-q.false refl c.ok.ensures
+returns-in-Ok c = row_told _ _ _ _ _ _ _ c.in-Ok.is c.if-nodes-p.false c.if-nodes-q.false refl c.ok.ensures
 
 pub returns-in-SubtreeOkSent : goal.returns-in-SubtreeOkSent
 unfolding place_of own_in own_of need_of every_of does_of stands_in starts_round every_has queue_answer around_of if_b
-returns-in-SubtreeOkSent c = row_told _ _ _ _ _ _ _ c.enum_told-in-SubtreeOkSent-1.given.1 c.if-nodes-p.false c.if-nodes-q.false refl c.subtree_ok_sent.ensures
+returns-in-SubtreeOkSent c = row_told _ _ _ _ _ _ _ c.in-SubtreeOkSent.is c.if-nodes-p.false c.if-nodes-q.false refl c.subtree_ok_sent.ensures
 
 pub returns-in-SubtreeOkDelivered : goal.returns-in-SubtreeOkDelivered
 unfolding place_of own_in own_of need_of every_of does_of stands_in starts_round every_has queue_answer around_of if_b
-returns-in-SubtreeOkDelivered c = row_told _ _ _ _ _ _ _ c.enum_told-in-SubtreeOkDelivered-1.given.1 c.if-nodes-p.false c.if-nodes-q.false refl (row_as _ _ _ _ _ _ _ _ c.enum_told-in-SubtreeOkDelivered-1.given.1 c.delivered.ensures)
+returns-in-SubtreeOkDelivered c = row_told _ _ _ _ _ _ _ c.in-SubtreeOkDelivered.is c.if-nodes-p.false c.if-nodes-q.false refl (row_as _ _ _ _ _ _ _ _ c.in-SubtreeOkDelivered.is c.delivered.ensures)
 
 pub returns-in-ClusterOk : goal.returns-in-ClusterOk
 unfolding place_of own_in own_of need_of every_of does_of stands_in starts_round every_has queue_answer around_of if_b
-returns-in-ClusterOk c = row_told _ _ _ _ _ _ _ c.enum_told-in-ClusterOk-1.given.1 c.if-nodes-p.false c.if-nodes-q.false refl c.cluster_ok.ensures
+returns-in-ClusterOk c = row_told _ _ _ _ _ _ _ c.in-ClusterOk.is c.if-nodes-p.false c.if-nodes-q.false refl c.cluster_ok.ensures
 
 pub returns-in-DownSent : goal.returns-in-DownSent
 unfolding place_of own_in own_of need_of every_of does_of stands_in starts_round every_has queue_answer around_of if_b
-returns-in-DownSent c = row_told _ _ _ _ _ _ _ c.enum_told-in-DownSent-1.given.1 c.if-nodes-p.false c.if-nodes-q.false refl c.down_sent.ensures
+returns-in-DownSent c = row_told _ _ _ _ _ _ _ c.in-DownSent.is c.if-nodes-p.false c.if-nodes-q.false refl c.down_sent.ensures
 
 pub returns-in-DownDelivered : goal.returns-in-DownDelivered
 unfolding place_of own_in own_of need_of every_of does_of stands_in starts_round every_has queue_answer around_of if_b
-returns-in-DownDelivered c = row_told _ _ _ _ _ _ _ c.enum_told-in-DownDelivered-1.given.1 c.if-nodes-p.false c.if-nodes-q.false refl (row_as _ _ _ _ _ _ _ _ c.enum_told-in-DownDelivered-1.given.1 c.delivered-in-DownDelivered.ensures)
+returns-in-DownDelivered c = row_told _ _ _ _ _ _ _ c.in-DownDelivered.is c.if-nodes-p.false c.if-nodes-q.false refl (row_as _ _ _ _ _ _ _ _ c.in-DownDelivered.is c.delivered-in-DownDelivered.ensures)
 
 pub returns-in-PreferredSent : goal.returns-in-PreferredSent
 unfolding place_of own_in own_of need_of every_of does_of stands_in starts_round every_has queue_answer around_of if_b
-returns-in-PreferredSent c = row_told _ _ _ _ _ _ _ c.enum_told-in-PreferredSent-1.given.1 c.if-nodes-p.false c.if-nodes-q.false refl c.preferred_sent.ensures
+returns-in-PreferredSent c = row_told _ _ _ _ _ _ _ c.in-PreferredSent.is c.if-nodes-p.false c.if-nodes-q.false refl c.preferred_sent.ensures
 
 pub returns-in-PreferredDelivered : goal.returns-in-PreferredDelivered
 unfolding place_of own_in own_of need_of every_of does_of stands_in starts_round every_has queue_answer around_of if_b
-returns-in-PreferredDelivered c = row_told _ _ _ _ _ _ _ c.enum_told-in-PreferredDelivered-1.given.1 c.if-nodes-p.false c.if-nodes-q.false refl c.preferred_delivered.ensures
+returns-in-PreferredDelivered c = row_told _ _ _ _ _ _ _ c.in-PreferredDelivered.is c.if-nodes-p.false c.if-nodes-q.false refl c.preferred_delivered.ensures
 
 pub returns-in-UpSent : goal.returns-in-UpSent
 unfolding place_of own_in own_of need_of every_of does_of stands_in starts_round every_has queue_answer around_of if_b
-returns-in-UpSent c = row_told _ _ _ _ _ _ _ c.enum_told-in-UpSent-1.given.1 c.if-nodes-p.false c.if-nodes-q.false refl c.up_sent.ensures
+returns-in-UpSent c = row_told _ _ _ _ _ _ _ c.in-UpSent.is c.if-nodes-p.false c.if-nodes-q.false refl c.up_sent.ensures
 
 pub returns-in-UpDelivered : goal.returns-in-UpDelivered
 unfolding place_of own_in own_of need_of every_of does_of stands_in starts_round every_has queue_answer around_of if_b
-returns-in-UpDelivered c = row_told _ _ _ _ _ _ _ c.enum_told-in-UpDelivered-1.given.1 c.if-nodes-p.false c.if-nodes-q.false refl (row_as _ _ _ _ _ _ _ _ c.enum_told-in-UpDelivered-1.given.1 c.delivered-in-UpDelivered.ensures)
+returns-in-UpDelivered c = row_told _ _ _ _ _ _ _ c.in-UpDelivered.is c.if-nodes-p.false c.if-nodes-q.false refl (row_as _ _ _ _ _ _ _ _ c.in-UpDelivered.is c.delivered-in-UpDelivered.ensures)
 
 pub returns-in-ClusterGo : goal.returns-in-ClusterGo
 unfolding place_of own_in own_of need_of every_of does_of stands_in starts_round every_has queue_answer around_of if_b
-returns-in-ClusterGo c = row_told _ _ _ _ _ _ _ c.enum_told-in-ClusterGo-1.given.1 c.if-nodes-p.false c.if-nodes-q.false refl c.cluster_go.ensures
+returns-in-ClusterGo c = row_told _ _ _ _ _ _ _ c.in-ClusterGo.is c.if-nodes-p.false c.if-nodes-q.false refl c.cluster_go.ensures
 
 pub returns-in-SubtreeGoSent : goal.returns-in-SubtreeGoSent
 unfolding place_of own_in own_of need_of every_of does_of stands_in starts_round every_has queue_answer around_of if_b
-returns-in-SubtreeGoSent c = row_told _ _ _ _ _ _ _ c.enum_told-in-SubtreeGoSent-1.given.1 c.if-nodes-p.false c.if-nodes-q.false refl c.subtree_go_sent.ensures
+returns-in-SubtreeGoSent c = row_told _ _ _ _ _ _ _ c.in-SubtreeGoSent.is c.if-nodes-p.false c.if-nodes-q.false refl c.subtree_go_sent.ensures
 
 pub returns-in-SubtreeGoDelivered : goal.returns-in-SubtreeGoDelivered
 unfolding place_of own_in own_of need_of every_of does_of stands_in starts_round every_has queue_answer around_of if_b
-returns-in-SubtreeGoDelivered c = row_told _ _ _ _ _ _ _ c.enum_told-in-SubtreeGoDelivered-1.given.1 c.if-nodes-p.false c.if-nodes-q.false refl (row_as _ _ _ _ _ _ _ _ c.enum_told-in-SubtreeGoDelivered-1.given.1 c.delivered-in-SubtreeGoDelivered.ensures)
+returns-in-SubtreeGoDelivered c = row_told _ _ _ _ _ _ _ c.in-SubtreeGoDelivered.is c.if-nodes-p.false c.if-nodes-q.false refl (row_as _ _ _ _ _ _ _ _ c.in-SubtreeGoDelivered.is c.delivered-in-SubtreeGoDelivered.ensures)
 
 pub returns-in-Go : goal.returns-in-Go
 unfolding place_of own_in own_of need_of every_of does_of stands_in starts_round every_has queue_answer around_of if_b
-returns-in-Go c = row_told _ _ _ _ _ _ _ c.enum_told-in-Go-1.given.1 c.if-nodes-p.false c.if-nodes-q.false refl c.go.ensures
+returns-in-Go c = row_told _ _ _ _ _ _ _ c.in-Go.is c.if-nodes-p.false c.if-nodes-q.false refl c.go.ensures
 
 pub returns-in-Input : goal.returns-in-Input
 unfolding place_of own_in own_of need_of every_of does_of stands_in starts_round every_has queue_answer around_of if_b
-returns-in-Input c = row_told _ _ _ _ _ _ _ c.enum_told-in-Input-1.given.1 c.if-nodes-p.false c.if-nodes-q.false refl c.input.ensures
+returns-in-Input c = row_told _ _ _ _ _ _ _ c.in-Input.is c.if-nodes-p.false c.if-nodes-q.false refl c.input.ensures
