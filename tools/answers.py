@@ -130,6 +130,7 @@ def turn_body(body, names, fn, helpers, goal, inside=False):
     # an earlier place handed to a lemma of this file
     for h, place in helpers.items():
         handed = f"(goal.at.{goal} c).{place}" if goal else f"{'c' if inside == place else 'c.' + place}"
+        body = body.replace("(§)", "§")
         body = re.sub(r"(?<![\w.'-])" + re.escape(h) + r" (§|" + "|".join(map(re.escape, ["c", *aliases])) + r")(?![\w.'-])", lambda m: f"{h} {handed}" if goal and "." not in handed.split(" ")[0] else f"{h} {handed if handed == 'c' else '(' + handed + ')' if not handed.startswith('(') else handed}", body)
     return body
 
@@ -212,15 +213,18 @@ def turn(crate, path, entry):
     lets = {}
     for b in defs:
         first = b.split("\n")[0]
-        m = re.match(r"(?:abbrev )?(?:pub )?(?:abbrev )?(" + WORD + r") : (.*)", first)
+        m = re.match(r"(?:abbrev )?(?:pub )?(?:abbrev )?(" + WORD + r") :(?: (.*)|$)", first)
         if b.startswith("--") and not m:
             lines = b.split("\n")
             j = next((i for i, x in enumerate(lines) if not x.startswith("--")), len(lines))
-            m = re.match(r"(?:abbrev )?(?:pub )?(?:abbrev )?(" + WORD + r") : (.*)", lines[j]) if j < len(lines) else None
+            m = re.match(r"(?:abbrev )?(?:pub )?(?:abbrev )?(" + WORD + r") :(?: (.*)|$)", lines[j]) if j < len(lines) else None
         if not m:
             local.append((None, b))
             continue
-        name, sig = m.group(1), m.group(2)
+        name, sig = m.group(1), m.group(2) or ""
+        after = b.split(first, 1)[1].split("\n")[1:]
+        while after and after[0].startswith("    ") and not sig.startswith(("tie.Need", "tie.inv", "tie.dec")):
+            sig += " " + after.pop(0).strip()
         if re.search(r"statement", sig) or name.endswith(("-spec", "_spec")):
             spec = b
             continue
@@ -294,8 +298,11 @@ def turn(crate, path, entry):
             if len(rest) != len(names.order):
                 out.append(("", f"-- UNKNOWN {len(rest)} answers, {len(names.order)} goals: {' '.join(g for _, g in names.order)}\n-- {' '.join(rest)}"))
             else:
+                un = "".join(x + "\n" for x in spec.split("\n") if x.startswith("unfolding "))
                 for a, (_, goal) in zip(rest, names.order):
                     if TRIVIAL.match(a):
+                        if un and goal.startswith("returns"):
+                            out.append((goal, f"pub {goal} : goal.{goal}\n{un}{goal} c = search rules"))
                         continue
                     if a in done:
                         if done[a] != goal:
@@ -304,7 +311,6 @@ def turn(crate, path, entry):
                                 out.append((goal, got))
                         continue
                     l = re.match(r"\(λ c(?: κs)?\. (.*)\)$", a, re.S)
-                    un = "".join(x + "\n" for x in spec.split("\n") if x.startswith("unfolding "))
                     if l:
                         body = turn_body(" " + l.group(1), names, module, helpers, goal)
                         if goal == names.order and False:
@@ -325,6 +331,8 @@ def turn(crate, path, entry):
             while lines and lines[0].startswith("--"):
                 pre.append(lines.pop(0))
             sig = lines[0]
+            while len(lines) > 1 and lines[1].startswith("    "):
+                sig += "\n" + lines.pop(1)
             sig = re.sub(r"tie\.([A-Z][^\s)]*)((?: (?:invariant|decreases)-\S*?)*)(?=[\s)]|$)", lambda m: (names.place(m.group(1)) or "UNKNOWN-" + m.group(1)), sig)
             places.add(helpers[name])
             rest = "\n".join(lines[1:])
@@ -375,7 +383,7 @@ def attribute(crate, folder):
     for b in re.split(r"\n\n", text)[1:]:
         lines = b.strip().split("\n")
         lines = [x for x in lines if not x.startswith("--")]
-        if not re.fullmatch(r"\S+ c = rw c\.\S+\.is refl", lines[-1]):
+        if not re.fullmatch(r"\S+ c = (rw c\.\S+\.is refl|search rules)", lines[-1]):
             return
         for x in lines:
             if x.startswith("unfolding "):

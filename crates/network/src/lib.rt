@@ -30,6 +30,7 @@ pub struct Network {
 }
 
 // "a network of zeros", for what is refused
+#[tactic(auto, unfolding(crate::specs::Zeros::zero_network))]
 pub fn zeros() -> Network
     ensures { result ≡ zero_network }
 {

@@ -222,6 +222,7 @@ fn rule(net: Network, rec: Record) -> u8
     }
 }
 
+#[tactic(auto, unfolding(crate::specs::Reader::node_added))]
 fn add_node(mut net: Network, parent: u8, start: u16) -> Network
     requires { net.nodes < 64 }
     ensures { result ≡ node_added net parent start }
@@ -233,6 +234,7 @@ fn add_node(mut net: Network, parent: u8, start: u16) -> Network
     net
 }
 
+#[tactic(auto, unfolding(crate::specs::Reader::link_added))]
 fn add_link(mut net: Network, a: u8, b: u8, flag: u8) -> Network
     requires { net.links < 128 }
     ensures { result ≡ link_added net a b flag }
@@ -245,6 +247,7 @@ fn add_link(mut net: Network, a: u8, b: u8, flag: u8) -> Network
     net
 }
 
+#[tactic(auto, unfolding(crate::specs::Reader::rounds_added))]
 fn add_rounds(mut net: Network, v: u16) -> Network
     ensures { result ≡ rounds_added net v }
 {

@@ -50,6 +50,7 @@ pub(crate) fn near(sets: &[u64; 64], p: u8, q: u8) -> bool
 }
 
 // "A node that names itself as parent is a root."
+#[tactic(auto, unfolding(crate::specs::Wires::is_root))]
 pub(crate) fn is_root(parents: &[u8; 64], p: u8) -> bool
     requires { p < 64 }
     ensures { result ≡ is_root parents.now p }

@@ -10,6 +10,7 @@ const BLANK: u8 = 32;
 
 const LINE_FEED: u8 = 10;
 
+#[tactic(auto, unfolding(crate::specs::Lines::glyph))]
 fn digit(n: u64) -> u8
     requires { n < 10 }
     ensures { result ≡ glyph n }

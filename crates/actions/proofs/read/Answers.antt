@@ -14,16 +14,6 @@ use Rattle.actions.proofs.Numbers.{body_at, body_one_or_two}
 use borrow.Author.Rules.{rules}
 use Rattle.actions.proofs.read.Goals as goal
 
--- the body's length is that of the kind read
-body_read :
-    (c : tie.After-wide)
-    → c.wide.result ≡ body_of (kind_at (get_or c.before.before.before.before.before.before.args.bytes.now c.before.before.before.before.before.before.args.at 0 - 16))
-body_read c =
-    let a = c.before.before.before.before.before.before.args in
-    let i = get_or a.bytes.now a.at 0 - 16 in
-    let h : i < length kinds = omega (arith, c.before.if3.false) in
-    c.wide.ensures.0 ∙ body_here i h
-
 abbrev table : List ℕ
 table = 1 ∷ 2 ∷ 2 ∷ 2 ∷ 2 ∷ 1 ∷ 1 ∷ 1 ∷ 1 ∷ 1 ∷ 1 ∷ 2 ∷ 2 ∷ 1 ∷ 1 ∷ 1 ∷ 1 ∷ 1 ∷ 1 ∷ 1 ∷ []
 
@@ -33,6 +23,16 @@ table_is = refl
 
 body_here : (i : ℕ) → i < length kinds → get_or table i 0 ≡ body_of (kind_at i)
 body_here i h = ap (λ t. get_or t i 0) table_is ∙ body_at i h
+
+-- the body's length is that of the kind read
+body_read :
+    (c : tie.After-wide)
+    → c.wide.result ≡ body_of (kind_at (get_or c.before.before.before.before.before.before.args.bytes.now c.before.before.before.before.before.before.args.at 0 - 16))
+body_read c =
+    let a = c.before.before.before.before.before.before.args in
+    let i = get_or a.bytes.now a.at 0 - 16 in
+    let h : i < length kinds = omega (arith, c.before.if3.false) in
+    c.wide.ensures.0 ∙ body_here i h
 
 pub returns-then-bytes-at : goal.returns-then-bytes-at
 unfolding read_at

@@ -10,6 +10,11 @@ use Rattle.joined.proofs.Walking.{WalkingIn, Idle, ToVisit, start_walking, turne
 use Rattle.joined.proofs.joined_nodes.Goals as goal
 use Rattle.joined.proofs.joined_nodes.Goals.{After-visit-rest}
 
+-- the next to visit is still to visit
+to-visit : (c : After-visit-rest) → ToVisit c.loop-w.w c.next-p.result
+to-visit c =
+    lowest_in c.loop-w.w.todo.marks c.next-p.result c.next-p.ensures (search rules) (search rules)
+
 -- the walk after the turn
 turn :
     (c : tie.After-visit invariant-loop decreases-loop)
@@ -19,11 +24,6 @@ turn :
 turn c =
     let args = c.before.before.before.before.before.before.before.args in
     c.visit.ensures ∙ ap (visited_of args.lowers.now args.uppers.now args.links args.nodes c.before.before.next.result) c.before.taken.ensures
-
--- the next to visit is still to visit
-to-visit : (c : After-visit-rest) → ToVisit c.loop-w.w c.next-p.result
-to-visit c =
-    lowest_in c.loop-w.w.todo.marks c.next-p.result c.next-p.ensures (search rules) (search rules)
 
 pub loop-w-init : goal.loop-w-init
 loop-w-init c =
