@@ -2,25 +2,21 @@
 -- Assumes nothing.
 use Prim.Native.Nat.{ℕ}
 use mathlib.Core.Path.{◌≡◌, refl, sym, ap}
-use mathlib.Core.List.{List, [], ◌∷◌}
+use mathlib.Core.List.{List}
 use lib.ListN.{set}
-use native.Mathlib.Omega.{arith}
-use mathlib.Core.Logic.{⊎_elim}
-use types.Run.{OneOf}
-use denote.Enum.Declared
 use Rattle.queue.specs.declared.Head.{Head}
 use Rattle.queue.specs.Queue.{packet_first, ack_first, slot_at, heard_in}
 
-pub no_packet : (h : Head) → OneOf (1 ∷ 2 ∷ []) (Declared.tag_of Rattle.queue.specs.contracts.Head.the_type h) → 16 ≡ packet_first h
+pub no_packet : (h : Head) → ((v : ℕ) → h ≡ Head.Packet v → ⊥) → 16 ≡ packet_first h
 unfolding packet_first
-no_packet (Head.Packet v) t = absurd (⊎_elim (λ e. omega (arith, e)) (λ e. omega (arith, e)) t)
+no_packet (Head.Packet v) t = absurd (t v refl)
 no_packet Head.Ack t = refl
 no_packet Head.Empty t = refl
 
-pub no_ack : (h : Head) → OneOf (0 ∷ 2 ∷ []) (Declared.tag_of Rattle.queue.specs.contracts.Head.the_type h) → 16 ≡ ack_first h
+pub no_ack : (h : Head) → (h ≡ Head.Ack → ⊥) → 16 ≡ ack_first h
 unfolding ack_first
 no_ack (Head.Packet v) t = refl
-no_ack Head.Ack t = absurd (⊎_elim (λ e. omega (arith, e)) (λ e. omega (arith, e)) t)
+no_ack Head.Ack t = absurd (t refl)
 no_ack Head.Empty t = refl
 
 module _ (slots : List ℕ) (d i : ℕ) where
@@ -30,8 +26,8 @@ module _ (slots : List ℕ) (d i : ℕ) where
   packet_heard h v e = sym (ap (λ x. heard_in slots x d i) e)
 
   -- nothing else is
-  pub nothing_heard : (h : Head) → OneOf (1 ∷ 2 ∷ []) (Declared.tag_of Rattle.queue.specs.contracts.Head.the_type h) → slots ≡ heard_in slots h d i
+  pub nothing_heard : (h : Head) → ((v : ℕ) → h ≡ Head.Packet v → ⊥) → slots ≡ heard_in slots h d i
   unfolding heard_in
-  nothing_heard (Head.Packet v) t = absurd (⊎_elim (λ e. omega (arith, e)) (λ e. omega (arith, e)) t)
+  nothing_heard (Head.Packet v) t = absurd (t v refl)
   nothing_heard Head.Ack t = refl
   nothing_heard Head.Empty t = refl

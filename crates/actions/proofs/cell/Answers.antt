@@ -7,4 +7,4 @@ use Rattle.actions.proofs.cell.Goals as goal
 
 pub returns : goal.returns
 unfolding cell_of
-returns c = (ap (λ n. n * 256 + c.args.c.1) c.index.ensures.0, omega arith)
+returns c = record { is = ap (λ n. n * 256 + c.args.c.1) c.index.ensures.is; inside = omega arith }

@@ -13,4 +13,4 @@ pub returns : goal.returns
 unfolding index_of
 returns c =
     let e = ap (λ n. n - 16) c.number.ensures in
-    (e, subst (λ n. n < length kinds) (sym e) (seated c.args.kind).0)
+    record { is = e; inside = subst (λ n. n < length kinds) (sym e) (seated c.args.kind).0 }

@@ -1,5 +1,4 @@
 -- `read`: the tests are the definition's, in its order; the constant table has each kind's body length at the kind's index.
--- the code's constant table
 use Prim.Native.Nat.{ℕ, ◌-◌, ◌<◌}
 use native.Mathlib.Omega.{arith}
 use mathlib.Core.Path.{◌≡◌, refl, ◌∙◌, ap}
@@ -13,7 +12,9 @@ use Rattle.actions.specs.Records.{names_of, body_of, body_table, act_at, read_at
 use Rattle.actions.proofs.Numbers.{body_at, body_one_or_two}
 use borrow.Author.Rules.{rules}
 use Rattle.actions.proofs.read.Goals as goal
+use Rattle.actions.proofs.read.Goals.{After-wide-body}
 
+-- the code's constant table
 abbrev table : List ℕ
 table = 1 ∷ 2 ∷ 2 ∷ 2 ∷ 2 ∷ 1 ∷ 1 ∷ 1 ∷ 1 ∷ 1 ∷ 1 ∷ 2 ∷ 2 ∷ 1 ∷ 1 ∷ 1 ∷ 1 ∷ 1 ∷ 1 ∷ 1 ∷ []
 
@@ -25,14 +26,11 @@ body_here : (i : ℕ) → i < length kinds → get_or table i 0 ≡ body_of (kin
 body_here i h = ap (λ t. get_or t i 0) table_is ∙ body_at i h
 
 -- the body's length is that of the kind read
-body_read :
-    (c : tie.After-wide)
-    → c.wide.result ≡ body_of (kind_at (get_or c.before.before.before.before.before.before.args.bytes.now c.before.before.before.before.before.before.args.at 0 - 16))
+body_read : (c : After-wide-body) → c.wide-body.result ≡ body_of (kind_at (get_or c.args.bytes.now c.args.at 0 - 16))
 body_read c =
-    let a = c.before.before.before.before.before.before.args in
-    let i = get_or a.bytes.now a.at 0 - 16 in
-    let h : i < length kinds = omega (arith, c.before.if3.false) in
-    c.wide.ensures.0 ∙ body_here i h
+    let i = get_or c.args.bytes.now c.args.at 0 - 16 in
+    let h : i < length kinds = omega (arith, c.if-i-ge20.false) in
+    c.wide-body.ensures.0 ∙ body_here i h
 
 pub returns-then-bytes-at : goal.returns-then-bytes-at
 unfolding read_at
@@ -51,13 +49,13 @@ returns-then-i-ge20 c = search (rules, picks)
 
 pub returns-then-bytes-last : goal.returns-then-bytes-last
 unfolding read_at act_at
-returns-then-bytes-last c = rw (← body_read §) (search (rules, picks))
+returns-then-bytes-last c = rw (← body_read (goal.at.returns-then-bytes-last c).After-wide-body) (search (rules, picks))
 
 pub bounds-bytes-first : goal.bounds-bytes-first
 bounds-bytes-first c =
     let a = c.args in
-    omega (arith, body_read w, (body_one_or_two (kind_at (get_or a.bytes.now a.at 0 - 16))).0, c.if-bytes-last.false)
+    omega (arith, body_read (goal.at.bounds-bytes-first c).After-wide-body, (body_one_or_two (kind_at (get_or a.bytes.now a.at 0 - 16))).0, c.if-bytes-last.false)
 
 pub returns : goal.returns
 unfolding read_at act_at kind_at
-returns c = rw (← body_read §) (search (rules, picks))
+returns c = rw (← body_read (goal.at.returns c).After-wide-body) (search (rules, picks))

@@ -5,8 +5,8 @@ use Rattle.queue.specs.Queue.{packet_first}
 use Rattle.queue.proofs.packet_first.Goals as goal
 
 pub returns-in_default : goal.returns-in_default
-returns-in_default c = rw (← c.first-head.ensures) (no_packet c.first-head.result c.in_default.in_default-own.keys2)
+returns-in_default c = rw (← c.first-head.ensures) (no_packet c.first-head.result c.in_default.not-Packet)
 
 pub returns : goal.returns
 unfolding packet_first
-returns c = rw (← c.first-head.ensures) (rw c.UNKNOWN-in-Packet.is refl)
+returns c = rw (← c.first-head.ensures) (rw c.in-Packet.is refl)
