@@ -1,7 +1,7 @@
 -- What holds of every kind is a test computed over the table of kinds: each kind stands there, at its own index.
 -- Assumes nothing.
 use Prim.Native.Nat.{ℕ, ◌+◌, ◌<◌, ◌≤◌}
-use mathlib.Core.Path.{◌≡◌, refl, sym, ◌∙◌, ap, subst}
+use mathlib.Core.Path.{◌≡◌, refl, subst}
 use mathlib.Core.Bool.{Bool, true}
 use lib.Dec.{lit<, eqb, leb}
 use lib.ListN.{length, get_or}

@@ -2,7 +2,7 @@
 -- the end. `aboves` holds them for `search`; the counter is written `n + 1`, as the code has it.
 -- Assumes nothing.
 use Prim.Native.Nat.{ℕ, zero, suc, ◌+◌, ◌*◌, ◌<◌, ◌≤◌}
-use native.Mathlib.Nat.{le_refl, le_antisymm, not-suc-le-zero, lt_irrefl, lt_of_le_of_lt}
+use native.Mathlib.Nat.{le_refl, le_antisymm, not-suc-le-zero, lt_irrefl}
 use native.Mathlib.Numerals.{add-one}
 use native.Mathlib.Omega.{arith}
 use native.Mathlib.Decide.{dec_lt}
@@ -11,8 +11,8 @@ use mathlib.Core.Bool.{Bool, true, false}
 use mathlib.Core.List.{List, [], ◌∷◌, ◌++◌}
 use lib.ListN.{length, get_or, set, length-set, length-append, get_or-append}
 use lib.Seq.{get_or-set_same, get_or-set_other, get_or_at, ext_get_or}
-use Rattle.laws.specs.Choice.{if_b, if_lt, both}
-use Rattle.laws.specs.Below.{all_below, sum_below, count_below, fold_below, first_of, over_below, list_below}
+use Rattle.laws.specs.Choice.{if_b, both}
+use Rattle.laws.specs.Below.{all_below, sum_below, fold_below, first_of, over_below, list_below}
 use Rattle.laws.proofs.Choice.{if_b_yes, if_b_no, if_lt_yes, if_lt_no, both_yes, both_left, both_right, lt_elim, b_elim}
 
 -- k below n + 1 is n itself or below n

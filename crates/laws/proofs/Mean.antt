@@ -1,6 +1,6 @@
 -- Rounding to the nearest, a half to the even one: what the definition computes is the one number that people mean by it.
 -- Assumes nothing.
-use Prim.Native.Nat.{ℕ, suc, ◌+◌, ◌-◌, ◌*◌, ◌/◌, ◌%◌, ◌<◌, ◌≤◌}
+use Prim.Native.Nat.{ℕ, ◌+◌, ◌-◌, ◌*◌, ◌/◌, ◌%◌, ◌<◌, ◌≤◌}
 use native.Mathlib.Nat.{div-lt_iff_lt-mul, div-add-mod, mod-lt, lt_of_mul-lt-mul_left, mul-add, mul-one, mul_comm, mul-le-mul_left}
 use native.Mathlib.Omega.{arith}
 use native.Mathlib.Decide.{dec_lt, ℕ_discrete}

@@ -11,7 +11,7 @@ use lib.Dec.{eqb}
 use lib.ListN.{get_or}
 use borrow.Author.Tests.{ltb-true}
 use Rattle.laws.specs.Choice.{both}
-use Rattle.laws.proofs.Choice.{if_lt_yes, if_lt_no, if_eq_yes, if_eq_no, both_yes, both_left, both_right, same_test}
+use Rattle.laws.proofs.Choice.{if_lt_yes, if_lt_no, if_eq_yes, if_eq_no, both_yes, both_left, same_test}
 use Rattle.laws.proofs.Faults.{faults_or}
 use Rattle.network.specs.Valid.{rises, link_fits, link_rises, link_stands}
 use Rattle.network.proofs.Valid.{rises_of}

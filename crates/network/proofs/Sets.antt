@@ -6,17 +6,16 @@ use native.Mathlib.Nat.{le_refl, not-suc-le-zero}
 use native.Mathlib.Omega.{arith}
 use native.Mathlib.Decide.{ℕ_discrete, dec_lt}
 use mathlib.Core.Path.{◌≡◌, refl, sym, ◌∙◌, ap, subst}
-use mathlib.Core.Bool.{Bool, true, false}
+use mathlib.Core.Bool.{true}
 use mathlib.Core.List.{List}
 use mathlib.Core.Logic.{◌⊎◌, inl, inr}
 use lib.ListN.{get_or}
 use Rattle.laws.specs.Choice.{if_lt, if_eq}
 use Rattle.laws.specs.Below.{fold_below}
-use Rattle.laws.proofs.Choice.{lt_elim, eq_elim, if_lt_yes, if_lt_no, if_eq_yes, if_eq_no, true_not_false}
+use Rattle.laws.proofs.Choice.{lt_elim, eq_elim, if_lt_no, if_eq_yes, if_eq_no, true_not_false}
 use Rattle.laws.proofs.Below.{fold_keeps}
 use Rattle.nodeset.specs.Marks.{member, inserted}
 use Rattle.nodeset.proofs.Marks.{empty_has_none, inserted_is_in, inserted_keeps_others, inserted_fits, member_below}
-use Rattle.network.specs.declared.Network.{Network}
 use Rattle.network.specs.Sets.{towards, link_gives, link_set, child_set, Ends, rising, falling}
 
 -- ---- one more member

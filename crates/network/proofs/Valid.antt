@@ -1,24 +1,23 @@
 -- The test of answer 17 for a network and document 01's clauses are the same thing, and what a valid network is known by: no set holds a node
 -- past the count, and at most one link has two given ends.
 -- Assumes nothing.
-use Prim.Native.Nat.{ℕ, zero, suc, ◌+◌, ◌-◌, ◌^◌, ◌<◌, ◌≤◌, min, max}
-use native.Mathlib.Nat.{le_refl, not-suc-le-zero}
+use Prim.Native.Nat.{ℕ, zero, suc, ◌-◌, ◌^◌, ◌<◌, ◌≤◌, min, max}
+use native.Mathlib.Nat.{not-suc-le-zero}
 use native.Mathlib.Omega.{arith}
 use native.Mathlib.Decide.{ℕ_discrete, dec_lt}
-use mathlib.Core.Path.{◌≡◌, refl, sym, ◌∙◌, ap, subst}
-use mathlib.Core.Bool.{Bool, true, false}
+use mathlib.Core.Path.{◌≡◌, refl, sym, ◌∙◌, subst}
+use mathlib.Core.Bool.{true, false}
 use mathlib.Core.List.{List}
 use lib.ListN.{get_or}
 use lib.Dec.{ltb, leb, eqb}
 use borrow.Author.Tests.{lt-ltb, le-leb, eq-eqb, ltb-true, leb-true, eqb-true}
-use Rattle.laws.specs.Choice.{if_lt, if_eq, both}
-use Rattle.laws.specs.Below.{all_below}
+use Rattle.laws.specs.Choice.{if_eq, both}
 use Rattle.laws.proofs.Choice.{if_lt_yes, if_lt_no, if_eq_yes, if_eq_no, lt_elim, eq_elim, both_yes, both_left, both_right, true_not_false, not_true_false}
 use Rattle.laws.proofs.Below.{all_at, all_of}
 use Rattle.nodeset.specs.Marks.{member}
 use Rattle.nodeset.proofs.Marks.{same_members, empty_has_none}
 use Rattle.network.specs.declared.Network.{Network}
-use Rattle.network.specs.Sets.{neighbours_of, children_of, preferred_of, link_set, child_set, Ends, rising, falling}
+use Rattle.network.specs.Sets.{neighbours_of, children_of, preferred_of, link_set, Ends, rising, falling}
 use Rattle.network.specs.Valid.{within_limits, node_fits, rises, link_fits, link_rises, link_stands, agrees, valid_network, Limits, Ranges, Order, Derived, Rest, Clauses}
 use Rattle.network.proofs.Sets.{link_set_from, child_set_from, link_set_fits, child_set_fits}
 

@@ -1,10 +1,10 @@
 -- The binary digits of a number. Halving drops the lowest digit, so each law goes down the digits of both numbers at once: one clause for the
 -- lowest digit, one for the rest.
 -- Assumes nothing.
-use Prim.Native.Nat.{ℕ, zero, suc, ◌+◌, ◌-◌, ◌*◌, ◌/◌, ◌%◌, ◌^◌, ◌<◌, ◌≤◌}
-use native.Mathlib.Nat.{div-one, pow-suc, div-div-eq-div-mul, mul_comm, pow-zero, le_refl, not-suc-le-zero}
+use Prim.Native.Nat.{ℕ, zero, suc, ◌+◌, ◌-◌, ◌/◌, ◌%◌, ◌^◌, ◌<◌, ◌≤◌}
+use native.Mathlib.Nat.{div-one, pow-suc, div-div-eq-div-mul, mul_comm, not-suc-le-zero}
 use native.Mathlib.Omega.{arith}
-use mathlib.Core.Path.{◌≡◌, refl, sym, ◌∙◌, ap, ap₂, subst}
+use mathlib.Core.Path.{◌≡◌, refl, sym, ◌∙◌, ap, ap₂}
 use lib.Bits.{bit_or, or_step, or_zero_r}
 use lib.Count.{ones, ones_step, count_trailing_zeros, under}
 use Rattle.laws.specs.Below.{sum_below}

@@ -1,20 +1,20 @@
 -- The set's own facts, in document 01's words: what is in the empty set, in a set with one more node and in a set with one fewer; that a number
 -- above 63 is in no set; what the size and the lowest member are; and that two sets with the same members are the same set.
 -- Assumes nothing.
-use Prim.Native.Nat.{ℕ, zero, suc, ◌+◌, ◌-◌, ◌*◌, ◌%◌, ◌^◌, ◌<◌, ◌≤◌}
-use native.Mathlib.Nat.{mod-eq_of_lt, one-mul, le_refl}
+use Prim.Native.Nat.{ℕ, ◌+◌, ◌-◌, ◌*◌, ◌%◌, ◌^◌, ◌<◌, ◌≤◌}
+use native.Mathlib.Nat.{mod-eq_of_lt, one-mul}
 use native.Mathlib.Omega.{arith}
 use native.Mathlib.Decide.{dec_lt}
 use mathlib.Core.Path.{◌≡◌, refl, sym, ◌∙◌, ap, subst}
 use mathlib.Core.Bool.{Bool, true, false}
-use lib.Dec.{eqb, lit<}
+use lib.Dec.{eqb}
 use lib.Pow.{pow-lt, pow_pos}
 use lib.Bits.{bit_or}
 use lib.Count.{ones, count_trailing_zeros, trailing_le}
-use borrow.Author.Tests.{eq-eqb, ne_eqb, eqb-true, eqb-false}
-use Rattle.laws.specs.Choice.{if_b, if_lt}
-use Rattle.laws.specs.Below.{sum_below, count_below, first_of}
-use Rattle.laws.proofs.Choice.{if_b_yes, if_b_no, if_lt_yes, if_lt_no, b_elim, lt_elim, same_test, not_true_false}
+use borrow.Author.Tests.{eq-eqb, eqb-true, eqb-false}
+use Rattle.laws.specs.Choice.{if_b}
+use Rattle.laws.specs.Below.{count_below, first_of}
+use Rattle.laws.proofs.Choice.{if_lt_yes, if_lt_no, b_elim, lt_elim, same_test, not_true_false}
 use Rattle.laws.proofs.Below.{sum_same, first_found, first_none, first_passes, first_below, first_le}
 use Rattle.nodeset.specs.Marks.{digit, member, inserted, removed, size_of, lowest_of}
 use Rattle.nodeset.proofs.Digits.{digit_of_zero, digit_below_two, digit_weighs, raised_same, raised_other, raised_fits, or_raises, or_keeps, cleared_same, cleared_other, same_digits, ones_are_digits, trailing_clear, trailing_set}

@@ -1,15 +1,14 @@
 -- Sums and tests over the members of a set, one member at a time: what holds of a set holds of one member and of the set without it. A walk
 -- over a set takes its lowest member out at each turn, so these are the laws of such a loop.
 -- Assumes nothing.
-use Prim.Native.Nat.{ℕ, zero, suc, ◌+◌, ◌*◌, ◌<◌, ◌≤◌}
-use native.Mathlib.Nat.{le_refl}
+use Prim.Native.Nat.{ℕ, suc, ◌+◌, ◌*◌, ◌<◌, ◌≤◌}
 use native.Mathlib.Omega.{arith}
 use mathlib.Core.Path.{◌≡◌, refl, sym, ◌∙◌, ap}
 use mathlib.Core.Bool.{Bool, true, false}
 use native.Mathlib.Decide.{ℕ_discrete}
 use lib.ListN.{length}
 use Rattle.laws.specs.Choice.{if_b}
-use Rattle.laws.specs.Below.{all_below, sum_below, count_below}
+use Rattle.laws.specs.Below.{count_below}
 use Rattle.laws.proofs.Choice.{if_b_yes, if_b_no, b_elim, same_test, not_true_false, true_not_false}
 use Rattle.laws.proofs.Below.{all_at, all_of, sum_but_one, sum_same, sum_at_most, sum_scaled, sum_zero}
 use Rattle.laws.specs.Lists.{total}

@@ -1,5 +1,4 @@
 use borrow.Author.Rules.{rules}
-use Prim.Native.Nat.{◌-◌}
 use lib.Bits.{bit_xor}
 use lib.ListN.{get_or}
 use Rattle.laws.proofs.Faults.{faults_start, faults_more, faults_end, faults_xor}

@@ -1,5 +1,4 @@
 use borrow.Author.Rules.{rules}
-use Prim.Native.Nat.{◌-◌}
 use Rattle.laws.proofs.Faults.{faults_more, faults_end}
 use Rattle.network.proofs.Links.{stands_past}
 use Rattle.network.proofs.links_stand.Goals as goal

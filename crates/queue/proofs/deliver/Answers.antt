@@ -1,5 +1,4 @@
 -- `deliver`: the first message leaves whatever it is, and a packet's value is heard.
-use borrow.Author.Rules.{rules}
 use Rattle.queue.proofs.Heads.{packet_heard, nothing_heard}
 use Rattle.queue.proofs.deliver.Goals as goal
 
