@@ -1,5 +1,6 @@
 -- `needs::least_need` is safe and ends: other counts up to 64, and each call in the loop takes any
-use Prim.Native.Nat.{◌≤◌, ◌-◌}
+-- argument.
+use Rattle.std.proofs.Common.{◌-◌, ◌≤◌}
 use Rattle.second.proofs.needs.least_need.Given as goal
 
 abbrev pub invariant-loop-other : goal.invariant-loop-other

@@ -1,5 +1,6 @@
 -- `ranges::any_wrong_cell` is safe and ends: i counts up to the number of cells, and the sheet and
-use Prim.Native.Nat.{◌≤◌, ◌-◌}
+-- the pair that it stands for fit because i does.
+use Rattle.std.proofs.Common.{◌-◌, ◌≤◌}
 use Rattle.second.proofs.ranges.any_wrong_cell.Given as goal
 
 abbrev pub invariant-loop-i : goal.invariant-loop-i

@@ -1,5 +1,6 @@
 -- `ranges::any_wrong_entry` is safe and ends: i counts up to the number of entries, and the row and
-use Prim.Native.Nat.{◌≤◌, ◌-◌}
+-- the place that it stands for fit because i does.
+use Rattle.std.proofs.Common.{◌-◌, ◌≤◌}
 use Rattle.second.proofs.ranges.any_wrong_entry.Given as goal
 
 abbrev pub invariant-loop-i : goal.invariant-loop-i

@@ -1,5 +1,6 @@
 -- `ranges::clear_sets` is safe and ends: p counts up to 128, and each call in the loop takes any
-use Prim.Native.Nat.{◌≤◌, ◌-◌}
+-- argument.
+use Rattle.std.proofs.Common.{◌-◌, ◌≤◌}
 use Rattle.second.proofs.ranges.clear_sets.Given as goal
 
 abbrev pub invariant-loop-p : goal.invariant-loop-p

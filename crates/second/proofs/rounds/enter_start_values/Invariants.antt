@@ -1,5 +1,6 @@
 -- `rounds::enter_start_values` is safe and ends: p counts up to 64, and each call in the loop takes
-use Prim.Native.Nat.{◌≤◌, ◌-◌}
+-- any argument.
+use Rattle.std.proofs.Common.{◌-◌, ◌≤◌}
 use Rattle.second.proofs.rounds.enter_start_values.Given as goal
 
 abbrev pub invariant-loop-p : goal.invariant-loop-p

@@ -1,7 +1,6 @@
 -- `rounds::hand_out` is safe and ends: p counts up to the number of nodes, which the buffer has
-use Prim.Native.Nat.{◌≤◌, ◌-◌}
-use mathlib.Core.Path.{◌≡◌}
-use lib.ListN.{length}
+-- room for, and the buffer keeps its length.
+use Rattle.std.proofs.Common.{◌≡◌, ◌-◌, ◌≤◌, length}
 use Rattle.second.proofs.rounds.hand_out.Given as goal
 
 abbrev pub invariant-loop-p : goal.invariant-loop-p

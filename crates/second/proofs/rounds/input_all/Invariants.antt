@@ -1,5 +1,6 @@
 -- `rounds::input_all` is safe and ends: p counts up to 64, and each call in the loop takes any
-use Prim.Native.Nat.{◌≤◌, ◌-◌}
+-- argument.
+use Rattle.std.proofs.Common.{◌-◌, ◌≤◌}
 use Rattle.second.proofs.rounds.input_all.Given as goal
 
 abbrev pub invariant-loop-p : goal.invariant-loop-p

@@ -1,6 +1,5 @@
--- `rounds::lockstep` is safe and ends: the rounds are counted up to the number asked for. Assumes
--- nothing.
-use Prim.Native.Nat.{◌≤◌, ◌-◌}
+-- `rounds::lockstep` is safe and ends: the rounds are counted up to the number asked for.
+use Rattle.std.proofs.Common.{◌-◌, ◌≤◌}
 use Rattle.second.proofs.rounds.lockstep.Given as goal
 
 abbrev pub invariant-loop : goal.invariant-loop

@@ -1,8 +1,6 @@
 -- `rounds::nearest` is safe: the quotient taken count times is at most the sum, and lacks less than the
-use Prim.Native.Nat.{◌+◌, ◌*◌, ◌/◌, ◌%◌, ◌<◌}
-use native.Mathlib.Nat.{div-le_self, div-add-mod', mod-lt}
-use native.Mathlib.Omega.{arith}
-use mathlib.Core.Path.{◌≡◌}
+-- count of it.
+use Rattle.std.proofs.Common.{◌≡◌, ◌+◌, ◌*◌, ◌/◌, ◌%◌, ◌<◌, arith, div-le_self, div-add-mod', mod-lt}
 use Rattle.second.proofs.rounds.nearest.Goals as goal
 use Rattle.second.proofs.rounds.nearest.Goals.{Start}
 

@@ -1,6 +1,6 @@
 -- `rounds::tell_all` is safe and ends: i counts up to 4096, and each call in the loop takes any
-use Prim.Native.Nat.{◌≤◌, ◌-◌}
-use Rattle.second_plan.proofs.memory.cell.Reads as cell_reads
+-- argument.
+use Rattle.std.proofs.Common.{◌-◌, ◌≤◌}
 use Rattle.second.proofs.rounds.tell_all.Given as goal
 
 abbrev pub invariant-loop-i : goal.invariant-loop-i

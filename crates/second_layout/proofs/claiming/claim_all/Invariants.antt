@@ -1,5 +1,5 @@
 -- `claiming::claim_all` is safe and ends: p counts up to the number of nodes, and each call in the loop takes any argument.
-use Prim.Native.Nat.{◌≤◌, ◌-◌}
+use Rattle.std.proofs.Common.{◌-◌, ◌≤◌}
 use Rattle.second_layout.proofs.claiming.claim_all.Given as goal
 
 abbrev pub invariant-loop-p : goal.invariant-loop-p

@@ -1,5 +1,5 @@
 -- `claiming::claim_cluster` is safe and ends: the turns are counted to the depth, whatever the links are.
-use Prim.Native.Nat.{◌≤◌, ◌-◌}
+use Rattle.std.proofs.Common.{◌-◌, ◌≤◌}
 use Rattle.second_layout.proofs.claiming.claim_cluster.Given as goal
 
 abbrev pub invariant-loop : goal.invariant-loop

@@ -1,5 +1,5 @@
 -- `claiming::enter_parents` is safe and ends: p counts up to 64, and each call in the loop takes any argument.
-use Prim.Native.Nat.{◌≤◌, ◌-◌}
+use Rattle.std.proofs.Common.{◌-◌, ◌≤◌}
 use Rattle.second_layout.proofs.claiming.enter_parents.Given as goal
 
 abbrev pub invariant-loop-p : goal.invariant-loop-p

@@ -1,5 +1,5 @@
 -- `flags::enter_flags` is safe and ends: l counts up to 128, and each call in the loop takes any argument.
-use Prim.Native.Nat.{◌≤◌, ◌-◌}
+use Rattle.std.proofs.Common.{◌-◌, ◌≤◌}
 use Rattle.second_layout.proofs.flags.enter_flags.Given as goal
 
 abbrev pub invariant-loop-l : goal.invariant-loop-l

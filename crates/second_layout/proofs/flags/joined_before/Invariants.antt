@@ -1,5 +1,5 @@
 -- `flags::joined_before` is safe and ends: k counts up to l, and each call in the loop takes any argument.
-use Prim.Native.Nat.{◌≤◌, ◌-◌}
+use Rattle.std.proofs.Common.{◌-◌, ◌≤◌}
 use Rattle.second_layout.proofs.flags.joined_before.Given as goal
 
 abbrev pub invariant-loop-k : goal.invariant-loop-k

@@ -1,5 +1,5 @@
 -- `paths::first_difference` is safe and ends: i counts up to 64, and each call in the loop takes any argument.
-use Prim.Native.Nat.{◌≤◌, ◌-◌}
+use Rattle.std.proofs.Common.{◌-◌, ◌≤◌}
 use Rattle.second_layout.proofs.paths.first_difference.Given as goal
 
 abbrev pub invariant-loop-i : goal.invariant-loop-i

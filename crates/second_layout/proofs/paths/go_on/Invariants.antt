@@ -1,5 +1,5 @@
 -- `paths::go_on` is safe and ends: i counts up to 64, and the steps are a byte, so that one more fit.
-use Prim.Native.Nat.{◌≤◌, ◌-◌}
+use Rattle.std.proofs.Common.{◌-◌, ◌≤◌}
 use Rattle.second_layout.proofs.paths.go_on.Given as goal
 
 abbrev pub invariant-loop-i : goal.invariant-loop-i

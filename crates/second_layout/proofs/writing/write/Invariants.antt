@@ -1,7 +1,5 @@
 -- `writing::write` is safe and ends: i counts up to the number of bytes, and the buffer keeps its length.
-use Prim.Native.Nat.{◌≤◌, ◌-◌}
-use mathlib.Core.Path.{◌≡◌}
-use lib.ListN.{length}
+use Rattle.std.proofs.Common.{◌≡◌, ◌-◌, ◌≤◌, length}
 use Rattle.second_layout.proofs.writing.write.Given as goal
 
 abbrev pub invariant-loop-i : goal.invariant-loop-i

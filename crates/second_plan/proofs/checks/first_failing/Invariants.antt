@@ -1,5 +1,6 @@
 -- `checks::first_failing` is safe and ends: i counts up to 128, and each call in the loop takes any
-use Prim.Native.Nat.{◌≤◌, ◌-◌}
+-- argument.
+use Rattle.std.proofs.Common.{◌-◌, ◌≤◌}
 use Rattle.second_plan.proofs.checks.first_failing.Given as goal
 
 abbrev pub invariant-loop-i : goal.invariant-loop-i

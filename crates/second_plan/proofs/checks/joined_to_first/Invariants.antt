@@ -1,5 +1,5 @@
 -- `checks::joined_to_first` is safe and ends: the turns are counted to 64, whatever the links are.
-use Prim.Native.Nat.{◌≤◌, ◌-◌}
+use Rattle.std.proofs.Common.{◌-◌, ◌≤◌}
 use Rattle.second_plan.proofs.checks.joined_to_first.Given as goal
 
 abbrev pub invariant-loop : goal.invariant-loop

@@ -1,5 +1,6 @@
 -- `checks::preferred_between` is safe and ends: l counts up to 128, and no more preferred links are
-use Prim.Native.Nat.{◌≤◌, ◌-◌}
+-- found than links were passed, so their number fits.
+use Rattle.std.proofs.Common.{◌-◌, ◌≤◌}
 use Rattle.second_plan.proofs.checks.preferred_between.Given as goal
 
 abbrev pub invariant-loop-l : goal.invariant-loop-l

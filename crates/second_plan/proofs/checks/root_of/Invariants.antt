@@ -1,5 +1,6 @@
 -- `checks::root_of` is safe and ends: the steps up are counted to 64, whatever the parents are: a
-use Prim.Native.Nat.{◌≤◌, ◌-◌}
+-- ring of parents ends like any other walk.
+use Rattle.std.proofs.Common.{◌-◌, ◌≤◌}
 use Rattle.second_plan.proofs.checks.root_of.Given as goal
 
 abbrev pub invariant-loop : goal.invariant-loop

@@ -1,5 +1,6 @@
 -- `checks::spread_all` is safe and ends: l counts up to 128, and each call in the loop takes any
-use Prim.Native.Nat.{◌≤◌, ◌-◌}
+-- argument.
+use Rattle.std.proofs.Common.{◌-◌, ◌≤◌}
 use Rattle.second_plan.proofs.checks.spread_all.Given as goal
 
 abbrev pub invariant-loop-l : goal.invariant-loop-l

@@ -1,5 +1,5 @@
 -- `checks::whole_plan` is safe and ends: the checks are counted up to 11, one past the last.
-use Prim.Native.Nat.{◌≤◌, ◌-◌}
+use Rattle.std.proofs.Common.{◌-◌, ◌≤◌}
 use Rattle.second_plan.proofs.checks.whole_plan.Given as goal
 
 abbrev pub invariant-loop-check : goal.invariant-loop-check

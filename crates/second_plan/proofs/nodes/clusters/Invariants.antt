@@ -1,5 +1,6 @@
 -- `nodes::clusters` is safe and ends: p counts up to 64, and no more roots are found than nodes
-use Prim.Native.Nat.{◌≤◌, ◌-◌}
+-- were passed, so their number fits.
+use Rattle.std.proofs.Common.{◌-◌, ◌≤◌}
 use Rattle.second_plan.proofs.nodes.clusters.Given as goal
 
 abbrev pub invariant-loop-p : goal.invariant-loop-p

@@ -1,5 +1,6 @@
 -- `nodes::enter_sets` is safe and ends: i counts up to 128, and each call in the loop takes any
-use Prim.Native.Nat.{◌≤◌, ◌-◌}
+-- argument.
+use Rattle.std.proofs.Common.{◌-◌, ◌≤◌}
 use Rattle.second_plan.proofs.nodes.enter_sets.Given as goal
 
 abbrev pub invariant-loop-i : goal.invariant-loop-i

@@ -1,5 +1,4 @@
-use borrow.Author.Rules.{rules}
-use Prim.Native.Nat.{◌-◌}
+use Rattle.std.proofs.Common.{rules}
 use Rattle.second_plan.proofs.reading.judge.Goals as goal
 
 pub loop-at-smaller : goal.loop-at-smaller

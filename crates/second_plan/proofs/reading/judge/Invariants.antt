@@ -1,7 +1,7 @@
 -- `reading::judge` is safe and ends: each turn goes at least one byte further and never past the
 -- end, so the plan ends; no more nodes or links are counted than bytes were passed, so their
-use Prim.Native.Nat.{◌≤◌, ◌-◌}
-use lib.ListN.{length}
+-- numbers fit.
+use Rattle.std.proofs.Common.{◌-◌, ◌≤◌, length}
 use Rattle.second_plan.proofs.reading.judge.Given as goal
 
 abbrev pub invariant-loop-at : goal.invariant-loop-at
