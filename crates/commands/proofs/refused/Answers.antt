@@ -6,7 +6,8 @@ use Rattle.commands.proofs.refused.Goals as goal
 pub returns : goal.returns
 returns c =
     let ended = c.end_only.ensures in
-    let output = c.args.output.now in (
-      record { counts = λ i. record { output = nothing_written output i; errors = ended.0 i }; on_output = nothing_filled output; on_errors = ended.1.0 },
-      record { output_fits = omega arith; errors_fit = ended.1.1 },
-    )
+    let output = c.args.output.now in
+    record {
+      prints = record { counts = λ i. record { output = nothing_written output i; errors = ended.count i }; on_output = nothing_filled output; on_errors = ended.held };
+      short = record { output_fits = omega arith; errors_fit = ended.at_most };
+    }

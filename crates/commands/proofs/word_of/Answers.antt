@@ -10,6 +10,3 @@ returns-then-same c = is_layout c.args.bytes.now (c.same.ensures.0 c.if-same.tru
 pub returns : goal.returns
 returns c =
     is_unknown c.args.bytes.now (λ e. true_not_false _ (c.same.ensures.1 e) c.if-same.false)
-
--- UNKNOWN 4 answers, 3 goals: same-requires returns-then-same returns
--- (λ c. search rules) (λ c κs. search rules) returns returns_2

@@ -17,13 +17,11 @@ to-visit c =
 
 -- the walk after the turn
 turn :
-    (c : tie.After-visit invariant-loop decreases-loop)
-    → let args = c.before.before.before.before.before.before.before.args in
-    c.visit.result
-    ≡ turned_of args.lowers.now args.uppers.now args.links args.nodes c.before.before.next.result c.before.before.before.before.before.loop.w
+    (c : After-visit-rest)
+    → c.visit-rest.result ≡ turned_of c.args.lowers.now c.args.uppers.now c.args.links c.args.nodes c.next-p.result c.loop-w.w
 turn c =
-    let args = c.before.before.before.before.before.before.before.args in
-    c.visit.ensures ∙ ap (visited_of args.lowers.now args.uppers.now args.links args.nodes c.before.before.next.result) c.before.taken.ensures
+    c.visit-rest.ensures
+    ∙ ap (visited_of c.args.lowers.now c.args.uppers.now c.args.links c.args.nodes c.next-p.result) c.taken.ensures
 
 pub loop-w-init : goal.loop-w-init
 loop-w-init c =
@@ -39,13 +37,13 @@ pub loop-w-smaller : goal.loop-w-smaller
 loop-w-smaller c =
     let args = c.args in
     let w = c.loop-w.w in
-    subst (λ (v : Walk). ahead v < ahead w) (sym (turn c)) (turn_ahead args.lowers.now args.uppers.now args.links args.nodes (search rules) _ w (to-visit (goal.at.loop-w-smaller c).After-visit-rest))
+    subst (λ (v : Walk). ahead v < ahead w) (sym (turn (goal.at.loop-w-smaller c).After-visit-rest)) (turn_ahead args.lowers.now args.uppers.now args.links args.nodes (search rules) _ w (to-visit (goal.at.loop-w-smaller c).After-visit-rest))
 
 pub loop-w-preserved : goal.loop-w-preserved
 loop-w-preserved c =
     let args = c.args in
     let at = c.loop-w in
-    subst (WalkingIn args.lowers.now args.uppers.now args.links args.nodes Idle) (sym (turn c))
+    subst (WalkingIn args.lowers.now args.uppers.now args.links args.nodes Idle) (sym (turn (goal.at.loop-w-preserved c).After-visit-rest))
     (turn_walking args.lowers.now args.uppers.now args.links args.nodes (search rules) _ at.w at.invariant (to-visit (goal.at.loop-w-preserved c).After-visit-rest))
 
 pub returns : goal.returns

@@ -46,25 +46,25 @@ returns-then-number-ne-ACCEPTED c =
     let args = c.args in
     let read = c.read_lists-lists.ensures in
     let refused = (by_record args.bytes.now args.depth args.out.now (λ e. c.if-number-ne-ACCEPTED.true (ap (λ (r : Planned). r.number) read ∙ e))) in
-    (rw read refused.0, (refused.1, small (goal.at.returns-then-number-ne-ACCEPTED c).After-shared_slice_known-1))
+    record { answer = rw read refused.0; written = refused.1; small = small (goal.at.returns-then-number-ne-ACCEPTED c).After-shared_slice_known-1 }
 
 pub returns-then-unjoined-at_most : goal.returns-then-unjoined-at_most
 returns-then-unjoined-at_most c =
     let args = c.args in
     let refused = (by_unjoined args.bytes.now args.depth args.out.now (kept (goal.at.returns-then-unjoined-at_most c).Else-number-ne-ACCEPTED) (omega (arith, c.if-unjoined-at_most.true, unjoined-is (goal.at.returns-then-unjoined-at_most c).After-first_unjoined-unjoined, count-is (goal.at.returns-then-unjoined-at_most c).After-at_most))) in
-    (rw (unjoined-is (goal.at.returns-then-unjoined-at_most c).After-first_unjoined-unjoined) refused.0, (refused.1, small (goal.at.returns-then-unjoined-at_most c).After-shared_slice_known-1))
+    record { answer = rw (unjoined-is (goal.at.returns-then-unjoined-at_most c).After-first_unjoined-unjoined) refused.0; written = refused.1; small = small (goal.at.returns-then-unjoined-at_most c).After-shared_slice_known-1 }
 
 pub returns-then-depth-gt-DEEPEST : goal.returns-then-depth-gt-DEEPEST
 returns-then-depth-gt-DEEPEST c =
     let args = c.args in
     let refused = by_depth args.bytes.now args.depth args.out.now (kept (goal.at.returns-then-depth-gt-DEEPEST c).Else-number-ne-ACCEPTED) (joined (goal.at.returns-then-depth-gt-DEEPEST c).Else-unjoined-at_most) c.if-depth-gt-DEEPEST.true in
-    (refused.0, (refused.1, small (goal.at.returns-then-depth-gt-DEEPEST c).After-shared_slice_known-1))
+    record { answer = refused.0; written = refused.1; small = small (goal.at.returns-then-depth-gt-DEEPEST c).After-shared_slice_known-1 }
 
 pub returns-then-out-place : goal.returns-then-out-place
 returns-then-out-place c =
     let args = c.args in
     let refused = by_room args.bytes.now args.depth args.out.now (kept (goal.at.returns-then-out-place c).Else-number-ne-ACCEPTED) (joined (goal.at.returns-then-out-place c).Else-unjoined-at_most) c.if-depth-gt-DEEPEST.false (omega (arith, c.if-out-place.true, place_is (goal.at.returns-then-out-place c).Else-depth-gt-DEEPEST)) in
-    (refused.0, (refused.1, small (goal.at.returns-then-out-place c).After-shared_slice_known-1))
+    record { answer = refused.0; written = refused.1; small = small (goal.at.returns-then-out-place c).After-shared_slice_known-1 }
 
 pub lay-requires : goal.lay-requires
 lay-requires c =
@@ -84,4 +84,4 @@ returns c =
     let args = c.args in
     let place = place_is (goal.at.returns c).Else-depth-gt-DEEPEST in
     let done = writes args.bytes.now args.depth args.out.now (kept (goal.at.returns c).Else-number-ne-ACCEPTED) (joined (goal.at.returns c).Else-unjoined-at_most) c.if-depth-gt-DEEPEST.false (omega (arith, c.if-out-place.false, place)) in
-    (rw place done.0, (cc (c.lay.ensures, place, wires (goal.at.returns c).After-with_sets-net, done.1), small (goal.at.returns c).After-shared_slice_known-1))
+    record { answer = rw place done.0; written = cc (c.lay.ensures, place, wires (goal.at.returns c).After-with_sets-net, done.1); small = small (goal.at.returns c).After-shared_slice_known-1 }

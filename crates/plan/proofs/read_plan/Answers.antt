@@ -8,9 +8,9 @@ use Rattle.plan.proofs.read_plan.Goals as goal
 pub returns-then-lists-ne-ACCEPTED : goal.returns-then-lists-ne-ACCEPTED
 unfolding plan_of
 returns-then-lists-ne-ACCEPTED c =
-    (rw (← c.read_lists-lists.ensures) (search (rules, picks)), λ k. omega (arith, c.shared_slice_known-1.given k))
+    record { answer = rw (← c.read_lists-lists.ensures) (search (rules, picks)); small = λ k. omega (arith, c.shared_slice_known-1.given k) }
 
 pub returns : goal.returns
 unfolding plan_of
 returns c =
-    (rw (← c.read_lists-lists.ensures, ← c.with_sets.ensures) (search (rules, picks)), λ k. omega (arith, c.shared_slice_known-1.given k))
+    record { answer = rw (← c.read_lists-lists.ensures, ← c.with_sets.ensures) (search (rules, picks)); small = λ k. omega (arith, c.shared_slice_known-1.given k) }

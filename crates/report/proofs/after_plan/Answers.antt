@@ -40,7 +40,8 @@ overflow_add-from c =
 
 pub returns : goal.returns
 returns c =
-    let is = text_is c.args.net c.args.bytes.now c.args.from c.run-ran.result c.start-begun.result c.start-begun.ensures c.run-ran.ensures.0 c.count-clusters.result c.count-clusters.ensures in (
-      subst (λ text. Put c.args.page.now 0 text c.run_lines.result c.run_lines.new.0) is c.run_lines.ensures.0,
-      subst (λ text. length text ≤ 2048) is c.run_lines.ensures.1,
-    )
+    let is = text_is c.args.net c.args.bytes.now c.args.from c.run-ran.result c.start-begun.result c.start-begun.ensures c.run-ran.ensures.0 c.count-clusters.result c.count-clusters.ensures in
+    record {
+      put = subst (λ text. Put c.args.page.now 0 text c.run_lines.result c.run_lines.new.page) is c.run_lines.ensures.put;
+      short = subst (λ text. length text ≤ 2048) is c.run_lines.ensures.short;
+    }

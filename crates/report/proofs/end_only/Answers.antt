@@ -15,4 +15,4 @@ pub returns : goal.returns
 returns c =
     let short = end_short c.args.number c.args.place (omega (arith, c.ranges.number)) (omega (arith, c.ranges.place)) in
     let shown = rw (stands_there c.end_line-count.ensures short) at c.whole.ensures in
-    (shown.0, (shown.1, short))
+    record { count = shown.count; held = shown.held; at_most = short }

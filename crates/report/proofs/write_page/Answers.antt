@@ -39,14 +39,14 @@ pub returns-then-bytes-gt-LONGEST : goal.returns-then-bytes-gt-LONGEST
 returns-then-bytes-gt-LONGEST c =
     let bytes = c.args.bytes.now in
     let is = too_long_lem bytes (omega (arith, c.if-bytes-gt-LONGEST.true)) in
-    (rw is c.end_line.ensures, rw is (omega (arith, end_short 19 65536 (omega arith) (omega arith))))
+    record { put = rw is c.end_line.ensures; short = rw is (omega (arith, end_short 19 65536 (omega arith) (omega arith))) }
 
 pub returns-then-number-ne-ACCEPTED : goal.returns-then-number-ne-ACCEPTED
 returns-then-number-ne-ACCEPTED c =
     let bytes = c.args.bytes.now in
     let planned = c.read_plan-planned.result in
     let is = refused bytes (omega (arith, c.if-bytes-gt-LONGEST.false)) planned c.read_plan-planned.ensures.0 c.if-number-ne-ACCEPTED.true in
-    (rw is c.end_line-then-number-ne-ACCEPTED.ensures, rw is (omega (arith, end_short planned.number planned.place (omega (arith, c.read_plan-planned.type-inv)) (omega (arith, c.read_plan-planned.type-inv)))))
+    record { put = rw is c.end_line-then-number-ne-ACCEPTED.ensures; short = rw is (omega (arith, end_short planned.number planned.place (omega (arith, c.read_plan-planned.type-inv)) (omega (arith, c.read_plan-planned.type-inv)))) }
 
 pub after_plan-requires : goal.after_plan-requires
 after_plan-requires c =
@@ -60,4 +60,4 @@ pub returns : goal.returns
 returns c =
     let bytes = c.args.bytes.now in
     let is = taken bytes (omega (arith, c.if-bytes-gt-LONGEST.false)) c.read_plan-planned.result c.read_plan-planned.ensures.0 c.if-number-ne-ACCEPTED.false in
-    (rw is c.after_plan.ensures.0, rw is c.after_plan.ensures.1)
+    record { put = rw is c.after_plan.ensures.put; short = rw is c.after_plan.ensures.short }

@@ -6,4 +6,4 @@ use Rattle.teravulk.proofs.teravulk_layout.Goals as goal
 pub returns : goal.returns
 returns c =
     let laid = c.layout-laid.ensures in
-    (ap (λ (r : Laid). r.number) laid.0, (ap (λ (r : Laid). r.place) laid.0, (laid.1.0, laid.1.1)))
+    record { number = ap (λ (r : Laid). r.number) laid.answer; place = ap (λ (r : Laid). r.place) laid.answer; written = laid.written; small = laid.small }

@@ -42,4 +42,4 @@ pub returns : goal.returns
 returns c =
     let at = c.loop-p in
     let all : at.p ≡ c.args.nodes = omega arith in
-    (rw all at at.invariant.1, rw all at at.invariant.2)
+    record { put = rw all at at.invariant.1; short = rw all at at.invariant.2 }
