@@ -8,10 +8,10 @@ use mathlib.Core.List.{List}
 use lib.ListN.{length, get_or}
 use Rattle.laws.specs.Choice.{if_lt}
 use Rattle.laws.specs.Below.{over_below}
-use Rattle.laws.proofs.Choice.{b_elim, lt_elim, eq_elim, if_eq_yes, if_eq_no, both_left, both_right}
+use Rattle.laws.proofs.Choice.{b_elim, lt_elim, eq_elim, if_eq_yes, if_eq_no}
 use Rattle.laws.proofs.Below.{length_over, over_below_lem, over_above}
 use Rattle.network.specs.declared.Network.{Network}
-use Rattle.network.specs.Valid.{within_limits, valid_network}
+use Rattle.network.specs.Valid.{valid_network}
 use Rattle.lockstep.specs.Rounds.{lockstep_of}
 use Rattle.lockstep.specs.Table.{table_number, table_of}
 use Rattle.lockstep.proofs.Rounds.{lockstep_start}
