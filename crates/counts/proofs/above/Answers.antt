@@ -3,4 +3,4 @@ use borrow.Author.Rules.{rules}
 use Rattle.counts.proofs.above.Goals as goal
 
 pub returns : goal.returns
-returns c = rw (← c.cell-at.ensures.0) (search rules)
+returns c = rw (← c.cell-at.ensures.is) (search rules)

@@ -9,7 +9,7 @@ pub returns-then-most-n : goal.returns-then-most-n
 returns-then-most-n c =
     let n = c.args.n in
     let most = c.args.most in
-    ne_eqb (n - most) 0 (λ e. omega (arith, c.if-most-n.taken, e)) ∙ sym (lt-leb n most c.if-most-n.taken)
+    ne_eqb (n - most) 0 (λ e. omega (arith, c.if-most-n.true, e)) ∙ sym (lt-leb n most c.if-most-n.true)
 
 pub returns : goal.returns
-returns c = sym (le-leb c.args.n c.args.most c.if-most-n.left)
+returns c = sym (le-leb c.args.n c.args.most c.if-most-n.false)

@@ -1,5 +1,4 @@
 use borrow.Author.Rules.{rules}
-use Prim.Native.Nat.{◌-◌}
 use Rattle.laws.proofs.Faults.{faults_start, faults_more, faults_end}
 use Rattle.ranges.specs.Fits.{loads_fit}
 use Rattle.ranges.proofs.loads_fit.Goals as goal

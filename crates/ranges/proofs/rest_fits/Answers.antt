@@ -1,5 +1,4 @@
 use borrow.Author.Rules.{rules}
-use Prim.Native.Nat.{◌-◌}
 use mathlib.Core.Path.{refl, ◌∙◌}
 use lib.ListN.{length, get_or}
 use Rattle.laws.proofs.Faults.{faults_more}

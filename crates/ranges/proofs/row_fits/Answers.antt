@@ -1,5 +1,4 @@
 use borrow.Author.Rules.{rules}
-use Prim.Native.Nat.{◌-◌}
 use Rattle.laws.proofs.Faults.{faults_start, faults_more, faults_end}
 use Rattle.ranges.proofs.row_fits.Goals as goal
 

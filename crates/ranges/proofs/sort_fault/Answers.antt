@@ -12,11 +12,11 @@ returns-then-sort-eq-PACKET c = search (rules, picks)
 
 pub returns-then-sort-eq-ACK : goal.returns-then-sort-eq-ACK
 unfolding sort_fits
-returns-then-sort-eq-ACK c = search (rules, picks, sym (eq-eqb _ _ c.if-sort-eq-ACK.taken))
+returns-then-sort-eq-ACK c = search (rules, picks, sym (eq-eqb _ _ c.if-sort-eq-ACK.true))
 
 pub returns-then-held-gt0 : goal.returns-then-held-gt0
 unfolding sort_fits
-returns-then-held-gt0 c = search (rules, picks, sym (ne_eqb _ _ c.if-sort-eq-ACK.left))
+returns-then-held-gt0 c = search (rules, picks, sym (ne_eqb _ _ c.if-sort-eq-ACK.false))
 
 pub returns : goal.returns
 unfolding sort_fits

@@ -4,5 +4,4 @@ use Rattle.synchronizer.proofs.Sizes.{sized}
 use Rattle.synchronizer.proofs.State.action.Goals as goal
 
 pub returns : goal.returns
-returns c =
-    (search rules, sized c.args.self _ c.well_formed.0)
+returns c = record { answer = search rules; sized = sized c.args.self _ c.well_formed.0 }

@@ -31,8 +31,14 @@ go_through-ended-requires c =
 
 pub returns-then-in_range : goal.returns-then-in_range
 returns-then-in_range c =
-    (list_answers (network (goal.at.returns-then-in_range c).Then-in_range) (state (goal.at.returns-then-in_range c).Then-in_range) _ c.lanes_of-lanes.ensures (in-its-range (goal.at.returns-then-in_range c).Then-in_range) _ _ c.go_through-ended.ensures, sized c.args.self _ c.well_formed.0)
+    record {
+      answer = list_answers (network (goal.at.returns-then-in_range c).Then-in_range) (state (goal.at.returns-then-in_range c).Then-in_range) _ c.lanes_of-lanes.ensures (in-its-range (goal.at.returns-then-in_range c).Then-in_range) _ _ c.go_through-ended.ensures;
+      sized = sized c.args.self _ c.well_formed.0;
+    }
 
 pub returns : goal.returns
 returns c =
-    (list_17 c.args.net c.args.self (sym c.in_range.ensures ∙ c.if-in_range.false) _, sized c.args.self _ c.well_formed.0)
+    record {
+      answer = list_17 c.args.net c.args.self (sym c.in_range.ensures ∙ c.if-in_range.false) _;
+      sized = sized c.args.self _ c.well_formed.0;
+    }

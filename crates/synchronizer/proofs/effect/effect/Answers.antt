@@ -15,7 +15,7 @@ pub returns-in-SendsAck : goal.returns-in-SendsAck
 returns-in-SendsAck c = λ counts. effect_told _ _ _ _ _ _ _ _ c.in-SendsAck.is (sends_ack _ _ _ _ _ _ _ _ _ _ _ _ _ c.push-in-SendsAck.ensures)
 
 pub returns-in-TakesPacket : goal.returns-in-TakesPacket
-returns-in-TakesPacket c = λ counts. effect_told _ _ _ _ _ _ _ _ c.in-TakesPacket.is (takes_packet _ _ _ _ _ _ _ _ _ _ _ _ _ _ c.deliver.ensures.0 c.deliver.ensures.1)
+returns-in-TakesPacket c = λ counts. effect_told _ _ _ _ _ _ _ _ c.in-TakesPacket.is (takes_packet _ _ _ _ _ _ _ _ _ _ _ _ _ _ c.deliver.ensures.left c.deliver.ensures.heard)
 
 pub returns-in-TakesAck : goal.returns-in-TakesAck
 returns-in-TakesAck c = λ counts. effect_told _ _ _ _ _ _ _ _ c.in-TakesAck.is (takes_ack _ _ _ _ _ _ _ _ _ _ _ _ _ c.pop.ensures)

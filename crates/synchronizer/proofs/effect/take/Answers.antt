@@ -16,7 +16,7 @@ returns-then-answer-gt0 c = done_refused _ _ _ _ _ _ (c.test-shown.ensures.is �
 pub overflow_add-i : goal.overflow_add-i
 overflow_add-i c =
     let shown = c.test-shown.ensures.taken (zero (goal.at.overflow_add-i c).Else-answer-gt0) in
-    let room : get_or c.args.counts.now c.cell-own.result 0 < 65535 = room_for_one c.args.counts.now c.args.kind _ c.test-shown.result.sub c.cell-own.result shown.0 c.cell-own.ensures.0 shown.1 in
+    let room : get_or c.args.counts.now c.cell-own.result 0 < 65535 = room_for_one c.args.counts.now c.args.kind _ c.test-shown.result.sub c.cell-own.result shown.0 c.cell-own.ensures.is shown.1 in
     omega arith
 
 pub effect-requires : goal.effect-requires
@@ -26,4 +26,4 @@ pub returns : goal.returns
 returns c =
     let shown = c.test-shown.ensures.taken (zero (goal.at.returns c).Else-answer-gt0) in
     done_taken _ _ _ _ _ _ (sym (answer_sees _ _ _ _ _) ∙ sym c.test-shown.ensures.is ∙ zero (goal.at.returns c).Else-answer-gt0)
-    (after_by _ _ _ _ _ _ _ _ shown.0 (ap (λ y. get_or c.args.counts.now y 0 + 1) c.cell-own.ensures.0) (rw (← c.does_of-does.ensures, ← c.cell-own.ensures.0) (c.effect.ensures _)))
+    (after_by _ _ _ _ _ _ _ _ shown.0 (ap (λ y. get_or c.args.counts.now y 0 + 1) c.cell-own.ensures.is) (rw (← c.does_of-does.ensures, ← c.cell-own.ensures.is) (c.effect.ensures _)))

@@ -11,7 +11,7 @@ use Rattle.synchronizer.proofs.entry.by_record.Goals as goal
 use Rattle.synchronizer.proofs.entry.by_record.Goals.{Then-in_range}
 
 abbrev network : Then-in_range → Network
-network c = c.args.t1
+network c = c.args.net
 
 abbrev state : Then-in_range → State
 state c =
@@ -38,4 +38,4 @@ returns-then-in_range c =
 pub returns : goal.returns
 returns c =
     let a = c.args in
-    action_17 a.t1 (state_of a.counts.now a.lens.now a.sorts.now a.loads.now a.slots.now a.values.now) (sym c.in_range.ensures ∙ c.if-in_range.false) _
+    action_17 a.net (state_of a.counts.now a.lens.now a.sorts.now a.loads.now a.slots.now a.values.now) (sym c.in_range.ensures ∙ c.if-in_range.false) _

@@ -2,4 +2,4 @@
 use Rattle.synchronizer.proofs.test.children_told.Goals as goal
 
 pub returns : goal.returns
-returns c = rw (← c.cell-at.ensures.0) c.children_have.ensures
+returns c = rw (← c.cell-at.ensures.is) c.children_have.ensures

@@ -5,9 +5,9 @@ use Rattle.synchronizer.proofs.Rows.{short, enough}
 use Rattle.synchronizer.proofs.test.node.Goals as goal
 
 pub returns-then-below : goal.returns-then-below
-returns-then-below c = rw (← c.cell-own.ensures.0, ← c.cell-other.ensures.0)
-    (enough _ _ _ _ _ _ _ _ refl (ltb-true _ _ (sym c.below.ensures.0 ∙ c.if-below.true)) refl refl (rw (← c.cell-own.ensures.0) (c.below.ensures.1 c.if-below.true)))
+returns-then-below c = rw (← c.cell-own.ensures.is, ← c.cell-other.ensures.is)
+    (enough _ _ _ _ _ _ _ _ refl (ltb-true _ _ (sym c.below.ensures.0 ∙ c.if-below.true)) refl refl (rw (← c.cell-own.ensures.is) (c.below.ensures.1 c.if-below.true)))
 
 pub returns : goal.returns
-returns c = rw (← c.cell-own.ensures.0, ← c.cell-other.ensures.0)
+returns c = rw (← c.cell-own.ensures.is, ← c.cell-other.ensures.is)
     (short _ _ _ _ _ _ _ _ refl (ltb-false _ _ (sym c.below.ensures.0 ∙ c.if-below.false)) refl)

@@ -2,4 +2,4 @@
 use Rattle.synchronizer.proofs.test.senders_told.Goals as goal
 
 pub returns : goal.returns
-returns c = rw (← c.cell-at.ensures.0) c.senders_have.ensures
+returns c = rw (← c.cell-at.ensures.is) c.senders_have.ensures
