@@ -14,7 +14,7 @@ use Rattle.records.specs.declared.Read.TheVariants.{Nothing, Unknown, Short}
 use Rattle.records.specs.Numbers.{accepted}
 use Rattle.records.specs.Record.{body_length, read_at}
 use Rattle.records.specs.Reader.{refused_with, accepted_with, lists_of}
-use Rattle.records.specs.Plan.{Plan, bytes_of, network_of, Rising, Keeps1to5}
+use Rattle.records.specs.Plan.{Plan, bytes_of, network_of, Rising}
 use Rattle.records.specs.Keeps.{record_bytes, no_plan, with, Keeps, EachKeeps, with_all, records_bytes, BreaksAt, bytes_end, unknown, short, whole, Accepted1to5, Refused1to5}
 use Rattle.records.proofs.Begun.{not_end_goes, records_of, plan_written, records_keep, records_add_up}
 use Rattle.records.proofs.Codec.{read_cases, written_is_read}

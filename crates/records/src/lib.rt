@@ -132,6 +132,8 @@ fn follows(net: Network, a: u8, b: u8) -> bool
     pair_rises(net.lowers[last], net.uppers[last], a, b)
 }
 
+// Each return is the guard of `rounds_rule` that its tests lead to.
+#[tactic(auto, using(laws::proofs::Choice::picks), unfolding(crate::specs::Rules::rounds_rule))]
 fn rounds_rule(rounds: u16, v: u16) -> u8
     ensures { result ≡ rounds_rule rounds v }
 {
