@@ -10,7 +10,7 @@ use mathlib.Core.List.{List, [], ◌∷◌, ◌++◌}
 use lib.ListN.{length, get_or, length-append, get_or-append}
 use lib.Seq.{get_or_at}
 use Rattle.laws.specs.Choice.{if_lt}
-use Rattle.laws.proofs.Choice.{if_lt_yes, if_lt_no, lt_elim}
+use Rattle.laws.proofs.Choice.{if_lt_yes, if_lt_no}
 use Rattle.laws.proofs.Below.{below_split}
 use Rattle.text.specs.Lines.{glyph, digits_in, decimal}
 use Rattle.text.specs.Digits.{value_from, IsDecimal}

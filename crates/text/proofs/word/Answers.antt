@@ -1,4 +1,3 @@
-use Prim.Native.Nat.{◌-◌}
 use native.Mathlib.Omega.{arith}
 use lib.Seq.{take_all}
 use Rattle.text.proofs.Put.{put_none, put_then, put_length}
