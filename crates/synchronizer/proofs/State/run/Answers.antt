@@ -1,5 +1,4 @@
 -- `State::run`: 17 by the network and the state handed in; else as on lent arrays, over the wires that the network gives.
--- the network and the state that were handed in
 use mathlib.Core.Path.{◌≡◌, sym, ◌∙◌}
 use mathlib.Core.Bool.{true}
 use Rattle.network.specs.declared.Network.{Network}
@@ -10,6 +9,7 @@ use Rattle.synchronizer.proofs.Sizes.{sized}
 use Rattle.synchronizer.proofs.State.run.Goals as goal
 use Rattle.synchronizer.proofs.State.run.Goals.{Then-in_range}
 
+-- the network and the state that were handed in
 abbrev network : Then-in_range → Network
 network c = c.args.net
 
