@@ -2,23 +2,23 @@
 // all that is judged stands in `report`; this reads to the end, calls it and writes.
 #![tactic(auto)]
 
+use input::failure::fail;
 use input::read_all;
-use libc::STDOUT_FILENO;
+use std::process::ExitCode;
 
 // One byte more than the longest trial tells an input that is too long. What fails says so on standard error, and nothing on standard output
 // is then to be taken for an answer.
-fn main() {
+fn main(rt: HostRuntime) -> ExitCode {
     let mut buffer = [0u8; report::LONGEST + 1];
-    let given = read_all(&mut buffer);
-    if given.failed {
-        os::fail(b"standard input");
-        return;
+    let given = read_all(&mut rt.stdin(), &mut buffer);
+    if let Some(why) = given.failed {
+        return fail(&rt, "standard input", &why);
     }
     let count = given.count;
     let mut page = [0u8; report::PAGE];
     let written = report::trial(&buffer[..count], &mut page);
-    if io::write_all(STDOUT_FILENO, &page[..written]) {
-        return;
+    match rt.stdout().write_all(&page[..written]) {
+        Ok(()) => ExitCode::SUCCESS,
+        Err(why) => fail(&rt, "standard output", &why),
     }
-    os::fail(b"standard output");
 }

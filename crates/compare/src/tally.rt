@@ -2,10 +2,17 @@
 // differed. The first difference of a trial is written out with the trial's number.
 use draws::bytes::get;
 use draws::numbers::{of_byte, plus, word_at};
-use libc::STDOUT_FILENO;
+use std::io;
+use std::io::Stdout;
 
-// The answers by number; the clauses of 17 in document 01's order; and then the other counts.
-pub type Tally = [usize; 40];
+// The answers by number; the clauses of 17 in document 01's order; and then the other counts. What is written goes to standard output; why that
+// failed, where it did, is told with the report.
+#[derive(Clone, Copy)]
+pub struct Tally {
+    counts: [usize; 40],
+    out: Stdout,
+    failed: Option<io::Error>,
+}
 
 const CLAUSES: usize = 24;
 
@@ -18,41 +25,66 @@ const DIFFERENT: usize = 34;
 // The number of the last trial of which a difference was written out.
 const TOLD: usize = 35;
 
+// Nothing is counted yet.
+pub fn empty(out: Stdout) -> Tally {
+    Tally {
+        counts: [0; 40],
+        out,
+        failed: None,
+    }
+}
+
 fn count(tally: &Tally, i: usize) -> usize {
-    if i < tally.len() {
-        return tally[i];
+    if i < tally.counts.len() {
+        return tally.counts[i];
     }
     0
 }
 
 fn raise(tally: &mut Tally, i: usize, by: usize) {
     let more = plus(count(tally, i), by);
-    if i < tally.len() {
-        tally[i] = more;
+    if i < tally.counts.len() {
+        tally.counts[i] = more;
     }
 }
 
 // A word and a number.
-fn write(word: &[u8], x: usize) {
-    io::write_all(STDOUT_FILENO, word);
-    io::print_decimal(STDOUT_FILENO, x as u64);
+fn write(tally: &Tally, word: &[u8], x: usize) -> io::Result<()> {
+    tally.out.write_all(word)?;
+    tally.out.print(x)
+}
+
+fn end_line(tally: &Tally) -> io::Result<()> {
+    tally.out.write_all(b"\n")
 }
 
 pub fn begin(tally: &mut Tally) {
     raise(tally, TRIAL, 1);
 }
 
+fn write_difference(
+    tally: &Tally,
+    what: &[u8],
+    place: usize,
+    bench: usize,
+    second: usize,
+) -> io::Result<()> {
+    write(tally, b"trial ", count(tally, TRIAL))?;
+    write(tally, what, place)?;
+    write(tally, b": the bench has ", bench)?;
+    write(tally, b", the second simulator ", second)?;
+    end_line(tally)
+}
+
 fn differ(tally: &mut Tally, what: &[u8], place: usize, bench: usize, second: usize) {
     raise(tally, DIFFERENT, 1);
-    if tally[TOLD] == tally[TRIAL] {
+    if tally.counts[TOLD] == tally.counts[TRIAL] {
         return;
     }
-    tally[TOLD] = tally[TRIAL];
-    write(b"trial ", tally[TRIAL]);
-    write(what, place);
-    write(b": the bench has ", bench);
-    write(b", the second simulator ", second);
-    io::write_all(STDOUT_FILENO, b"\n");
+    tally.counts[TOLD] = tally.counts[TRIAL];
+    if let Err(why) = write_difference(tally, what, place, bench, second) {
+        tally.failed = Some(why);
+    }
 }
 
 // So many numbers that have to be the same on both sides. Where they are not, the place of the first that differs is below `size`.
@@ -124,59 +156,72 @@ pub fn count_clause(tally: &mut Tally, clause: usize) {
     raise(tally, plus(CLAUSES - 1, clause), 1);
 }
 
-fn write_count(word: &[u8], number: usize, x: usize) {
-    write(word, number);
-    write(b": ", x);
-    io::write_all(STDOUT_FILENO, b"\n");
+fn write_count(tally: &Tally, word: &[u8], number: usize, x: usize) -> io::Result<()> {
+    write(tally, word, number)?;
+    write(tally, b": ", x)?;
+    end_line(tally)
 }
 
 // 19 is the bench program's own answer.
-fn write_counts(tally: &Tally) {
+fn write_counts(tally: &Tally) -> io::Result<()> {
     for i in 0..TRIAL {
         if i >= CLAUSES {
-            write_count(b"17 by clause ", i - (CLAUSES - 1), count(tally, i));
+            write_count(tally, b"17 by clause ", i - (CLAUSES - 1), count(tally, i))?;
         } else if i != 19 {
             if i < 22 {
-                write_count(b"answer ", i, count(tally, i));
+                write_count(tally, b"answer ", i, count(tally, i))?;
             }
         }
+    }
+    Ok(())
+}
+
+// A difference of which nothing could be written is told before the report.
+fn written(tally: &Tally) -> io::Result<()> {
+    match tally.failed {
+        Some(why) => Err(why),
+        None => Ok(()),
     }
 }
 
 // The last lines of a report.
-fn report_compared(tally: &Tally) {
-    write(b"numbers compared: ", count(tally, COMPARED));
-    write(b"\ndifferences: ", count(tally, DIFFERENT));
-    io::write_all(STDOUT_FILENO, b"\n");
+fn report_compared(tally: &Tally) -> io::Result<()> {
+    write(tally, b"numbers compared: ", count(tally, COMPARED))?;
+    write(tally, b"\ndifferences: ", count(tally, DIFFERENT))?;
+    end_line(tally)
 }
 
-pub fn report(tally: &Tally) {
-    write(b"trials: ", count(tally, TRIAL));
-    io::write_all(STDOUT_FILENO, b"\n");
-    write_counts(tally);
-    report_compared(tally);
+pub fn report(tally: &Tally) -> io::Result<()> {
+    written(tally)?;
+    write(tally, b"trials: ", count(tally, TRIAL))?;
+    end_line(tally)?;
+    write_counts(tally)?;
+    report_compared(tally)
 }
 
 // The answers that came, each with its number.
-fn write_answers(tally: &Tally, word: &[u8]) {
+fn write_answers(tally: &Tally, word: &[u8]) -> io::Result<()> {
     for i in 0..CLAUSES {
         if count(tally, i) > 0 {
-            write_count(word, i, count(tally, i));
+            write_count(tally, word, i, count(tally, i))?;
         }
     }
+    Ok(())
 }
 
 // The same of layouts, which have few of the answers.
-pub fn report_layouts(tally: &Tally) {
-    write(b"plans laid out: ", count(tally, TRIAL));
-    io::write_all(STDOUT_FILENO, b"\n");
-    write_answers(tally, b"layout's answer ");
-    report_compared(tally);
+pub fn report_layouts(tally: &Tally) -> io::Result<()> {
+    written(tally)?;
+    write(tally, b"plans laid out: ", count(tally, TRIAL))?;
+    end_line(tally)?;
+    write_answers(tally, b"layout's answer ")?;
+    report_compared(tally)
 }
 
 // How many trials had a difference planted, and how many differences were found in them.
-pub fn report_planted(tally: &Tally) {
-    write(b"planted: ", count(tally, TRIAL));
-    write(b", found: ", count(tally, DIFFERENT));
-    io::write_all(STDOUT_FILENO, b"\n");
+pub fn report_planted(tally: &Tally) -> io::Result<()> {
+    written(tally)?;
+    write(tally, b"planted: ", count(tally, TRIAL))?;
+    write(tally, b", found: ", count(tally, DIFFERENT))?;
+    end_line(tally)
 }

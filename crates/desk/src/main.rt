@@ -2,38 +2,47 @@
 // written, so all that is judged stands in `commands`; this reads the arguments and the input to its end, calls it and writes.
 #![tactic(auto)]
 
+ghost use Rattle.std.specs.Counts.{IsPrefixLen};
+
 use commands::{Word, word_of};
+use input::failure::fail;
 use input::{Number, decimal, read_all};
-use libc::{STDERR_FILENO, STDOUT_FILENO};
 use report::{LINE, LONGEST, PAGE};
+use std::process::ExitCode;
+use std::rt::Env;
 
 // No word is longer, and no number that a usize holds has more digits: a longer argument is none of them.
 const LETTERS: usize = 16;
 
 const DIGITS: usize = 20;
 
+// The argument's bytes at the start of the buffer, and how many they are: none, where it is not there or is longer than the buffer.
+fn argument(rt: &impl Env, i: usize, buffer: &mut [u8]) -> usize
+    ensures { IsPrefixLen result buffer.new }
+{
+    rt.arg(i, buffer).unwrap_or(0)
+}
+
 // What fails says so on standard error, and nothing on standard output is then to be taken for an answer.
-fn print(output: &[u8], errors: &[u8]) {
-    io::write_all(STDERR_FILENO, errors);
-    if io::write_all(STDOUT_FILENO, output) {
-        return;
+fn print(rt: HostRuntime, output: &[u8], errors: &[u8]) -> ExitCode {
+    let _ = rt.stderr().write_all(errors);
+    match rt.stdout().write_all(output) {
+        Ok(()) => ExitCode::SUCCESS,
+        Err(why) => fail(&rt, "standard output", &why),
     }
-    os::fail(b"standard output");
 }
 
 // `desk layout DEPTH`. One byte more than the longest input tells one that is too long.
-fn layout() {
+fn layout(rt: HostRuntime) -> ExitCode {
     let mut digits = [0u8; DIGITS];
-    let length = os::arg(2, &mut digits);
+    let length = argument(&rt, 2, &mut digits);
     let Number::Is(depth) = decimal(&digits[..length]) else {
-        print(b"", b"depth: Invalid argument\n");
-        return;
+        return print(rt, b"", b"depth: Invalid argument\n");
     };
     let mut buffer = [0u8; LONGEST + 1];
-    let given = read_all(&mut buffer);
-    if given.failed {
-        os::fail(b"standard input");
-        return;
+    let given = read_all(&mut rt.stdin(), &mut buffer);
+    if let Some(why) = given.failed {
+        return fail(&rt, "standard input", &why);
     }
     let count = given.count;
     let mut output = [0u8; PAGE];
@@ -41,15 +50,15 @@ fn layout() {
     let printed = commands::layout(&buffer[..count], depth, &mut output, &mut errors);
     let on_output = printed.output;
     let on_errors = printed.errors;
-    print(&output[..on_output], &errors[..on_errors]);
+    print(rt, &output[..on_output], &errors[..on_errors])
 }
 
 // A wrong word, or none, gets the list of words.
-fn main() {
+fn main(rt: HostRuntime) -> ExitCode {
     let mut letters = [0u8; LETTERS];
-    let length = os::arg(1, &mut letters);
+    let length = argument(&rt, 1, &mut letters);
     match word_of(&letters[..length]) {
-        Word::Layout => layout(),
-        Word::Unknown => print(b"", b"desk layout DEPTH\n"),
+        Word::Layout => layout(rt),
+        Word::Unknown => print(rt, b"", b"desk layout DEPTH\n"),
     }
 }

@@ -1,58 +1,67 @@
 // What the programs are given: standard input to its end, and the decimal numbers among their arguments.
 #![tactic(auto)]
 
-ghost use Rattle.std.specs.Prelude.{◌≡◌, ◌+◌, ◌≤◌, length};
-ghost use Rattle.io.specs.Counts.{IsPrefixLen};
+pub mod failure;
+
+ghost use Rattle.std.specs.Prelude.{◌≡◌, ◌+◌, ◌<◌, ◌≤◌, None, length, take, drop};
+ghost use Rattle.std.specs.Counts.{IsPrefixLen};
+ghost use Rattle.std.specs.Io.KnownBytes.{Consumes, IsAtEnd};
 ghost use Rattle.input.specs.Number.{with_digit, number_of};
 
-use libc::STDIN_FILENO;
+use std::io;
+use std::io::Read;
 
-// How many bytes came, and whether a read failed.
+// How many bytes came, and why a read failed, where one did.
 #[derive(Clone, Copy)]
 pub struct Input {
     pub count: usize,
-    pub failed: bool,
+    pub failed: Option<io::Error>,
 }
 
 // One read, to the place behind what the buffer has. No bytes: the input ends there.
-fn read_more(buffer: &mut [u8], have: usize) -> Input
+fn read_more<R: Read>(from: &mut R, buffer: &mut [u8], have: usize) -> Input
     requires { have ≤ length buffer.old }
-    ensures { have + result.count ≤ length buffer.old }
+    ensures within { have + result.count ≤ length buffer.new }
+    ensures before { take have buffer.new ≡ take have buffer.old }
+    ensures read { Consumes (R.remaining from.old) (R.remaining from.new) (take result.count (drop have buffer.new)) }
+    ensures end { result.failed ≡ None → result.count ≡ 0 → have < length buffer.old → IsAtEnd (R.remaining from.new) }
 {
-    let got = libc::read(STDIN_FILENO, &mut buffer[have..]);
-    if got < 0 {
-        return Input {
+    match from.read(&mut buffer[have..]) {
+        Ok(count) => Input {
+            count,
+            failed: None,
+        },
+        Err(why) => Input {
             count: 0,
-            failed: true,
-        };
-    }
-    Input {
-        count: io::count(got, &buffer[have..]),
-        failed: false,
+            failed: Some(why),
+        },
     }
 }
 
-// Reads standard input on until the buffer is full, the input ends or a read fails: one read may bring fewer bytes than there are.
-pub fn read_all(buffer: &mut [u8]) -> Input
-    ensures { IsPrefixLen result.count buffer.new }
+// Reads on until the buffer is full, the input ends or a read fails: one read may bring fewer bytes than there are. Of a reader whose bytes are
+// known, as one over memory: what the buffer has are its next bytes, and where there is room left and no read failed, these were all.
+pub fn read_all<R: Read>(from: &mut R, buffer: &mut [u8]) -> Input
+    ensures count { IsPrefixLen result.count buffer.new }
+    ensures read { Consumes (R.remaining from.old) (R.remaining from.new) (take result.count buffer.new) }
+    ensures whole { result.failed ≡ None → result.count < length buffer.new → IsAtEnd (R.remaining from.new) }
 {
     let mut have = 0;
     while have < buffer.len() {
-        let more = read_more(buffer, have);
-        if more.failed {
+        let more = read_more(from, buffer, have);
+        have += more.count;
+        if more.failed.is_some() {
             return Input {
                 count: have,
-                failed: true,
+                failed: more.failed,
             };
         }
         if more.count == 0 {
             break;
         }
-        have += more.count;
     }
     Input {
         count: have,
-        failed: false,
+        failed: None,
     }
 }
 

@@ -2,7 +2,9 @@
 // comes back compared. What is proved of it is that every call is safe and ends.
 #![tactic(auto)]
 
-use compare::tally::{Tally, begin, report_layouts, report_planted, same, same_answer, same_bytes};
+use compare::tally::{
+    Tally, begin, empty, report_layouts, report_planted, same, same_answer, same_bytes,
+};
 use draws::dice::below;
 use draws::numbers::{byte, minus, of_byte, plus};
 use draws::plans::{ROOM, any_wish};
@@ -10,6 +12,8 @@ use draws::unfilled::{append_any, unfilled_plan};
 use layout::Laid;
 use second_plan::answers::Answer;
 use second_plan::memory::PLAN;
+use std::io;
+use std::io::Stdout;
 
 const SEED: u64 = 588;
 
@@ -121,14 +125,14 @@ fn trial(tally: &mut Tally, dice: &mut u64) {
 }
 
 // Drawn plans, and what came of them.
-pub fn try_drawn() {
-    let mut tally = [0usize; 40];
+pub fn try_drawn(out: Stdout) -> io::Result<()> {
+    let mut tally = empty(out);
     let mut dice = SEED;
     for _ in 0..PLANS {
         begin(&mut tally);
         trial(&mut tally, &mut dice);
     }
-    report_layouts(&tally);
+    report_layouts(&tally)
 }
 
 // The ring 0-1 0-2 1-5 2-3 3-4 4-5, where at depth 3 node 4 is claimed by 5 and not by 3: 5 was claimed earlier.
@@ -146,9 +150,9 @@ fn plant(tally: &mut Tally, depth: usize) {
 }
 
 // Differences that have to be found and counted: of a written byte alone, and of the answer, the place and a written byte.
-pub fn try_planted() {
-    let mut tally = [0usize; 40];
+pub fn try_planted(out: Stdout) -> io::Result<()> {
+    let mut tally = empty(out);
     plant(&mut tally, 2);
     plant(&mut tally, 63);
-    report_planted(&tally);
+    report_planted(&tally)
 }

@@ -10,12 +10,13 @@ mod spoilt;
 use crate::reading::try_part;
 use calls::both::try_start;
 use calls::tables::try_tables;
-use compare::tally::{Tally, begin, report, same};
+use compare::tally::{Tally, begin, empty, report, same};
 use draws::damage::damage_plan;
 use draws::dice::below;
 use draws::numbers::of_byte;
 use draws::plans::{ROOM, any_wish, make_plan};
 use network::Network;
+use std::io;
 
 const SEED: u64 = 588;
 
@@ -67,16 +68,16 @@ fn trial(tally: &mut Tally, dice: &mut u64, t: usize) {
     }
 }
 
-fn main() {
-    planted::try_planted();
-    let mut tally = [0usize; 40];
+fn main(rt: HostRuntime) -> io::Result<()> {
+    planted::try_planted(rt.stdout())?;
+    let mut tally = empty(rt.stdout());
     let mut dice = SEED;
     known::try_known(&mut tally, &mut dice);
     for t in 0..TRIALS {
         begin(&mut tally);
         trial(&mut tally, &mut dice, t);
     }
-    report(&tally);
-    layouts::try_drawn();
-    layouts::try_planted();
+    report(&tally)?;
+    layouts::try_drawn(rt.stdout())?;
+    layouts::try_planted(rt.stdout())
 }

@@ -2,8 +2,10 @@
 // and the number that is printed would be another.
 use compare::networks::{plan_of, same_network};
 use compare::states::{draw_state, same_state};
-use compare::tally::{Tally, begin, report_planted, same, same_answer, same_words};
+use compare::tally::{Tally, begin, empty, report_planted, same, same_answer, same_words};
 use second_plan::memory::*;
+use std::io;
+use std::io::Stdout;
 use synchronizer::State;
 
 // The last flag of a network of zeros.
@@ -39,10 +41,10 @@ fn plant_in_numbers(tally: &mut Tally) {
     same(tally, b", place ", 2, 3);
 }
 
-pub(crate) fn try_planted() {
-    let mut tally = [0usize; 40];
+pub(crate) fn try_planted(out: Stdout) -> io::Result<()> {
+    let mut tally = empty(out);
     plant_in_network(&mut tally);
     plant_in_state(&mut tally);
     plant_in_numbers(&mut tally);
-    report_planted(&tally);
+    report_planted(&tally)
 }
