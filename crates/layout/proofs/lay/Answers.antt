@@ -8,9 +8,9 @@ use Rattle.claims.specs.Claiming.{parents_of}
 use Rattle.layout.specs.Layout.{laid_parents}
 use Rattle.layout.proofs.Refusals.{steps_lay}
 use Rattle.layout.proofs.lay.Goals as goal
-use Rattle.layout.proofs.lay.Goals.{After-parents-parents, After-root_table-roots}
+use Rattle.layout.proofs.lay.Goals.{After-root_table-roots}
 
-parents-are : (c : After-parents-parents) → c.parents-parents.result ≡ laid_parents c.args.net c.args.depth
+parents-are : (c : After-root_table-roots) → c.parents-parents.result ≡ laid_parents c.args.net c.args.depth
 parents-are c =
     let args = c.args in
     let count : min c.at_most-nodes.result 64 ≡ nodes_of args.net = omega (arith, c.at_most-nodes.ensures) in
@@ -31,4 +31,4 @@ first_flags-flags-requires c =
 
 pub returns : goal.returns
 returns c =
-    steps_lay c.args.bytes.now c.args.out.now c.args.taken c.args.depth c.args.net c.at_most-nodes.ensures c.at_most-links.ensures (parents-are (goal.at.returns c).After-parents-parents) (roots-are (goal.at.returns c).After-root_table-roots) c.first_flags-flags.ensures c.copy.ensures c.put_fields.ensures c.put_fields-2.ensures
+    steps_lay c.args.bytes.now c.args.out.now c.args.taken c.args.depth c.args.net c.at_most-nodes.ensures c.at_most-links.ensures (parents-are (goal.at.returns c).After-root_table-roots) (roots-are (goal.at.returns c).After-root_table-roots) c.first_flags-flags.ensures c.copy.ensures c.put_fields.ensures c.put_fields-2.ensures

@@ -17,7 +17,7 @@ use Rattle.layout.proofs.Clusters.{clusters_within}
 use Rattle.layout.proofs.Places.{plan_within, place_told}
 use Rattle.layout.proofs.Refusals.{by_record, by_unjoined, by_depth, by_room, writes}
 use Rattle.layout.proofs.layout.Goals as goal
-use Rattle.layout.proofs.layout.Goals.{After-at_most, After-first_unjoined-unjoined, After-shared_slice_known-1, After-with_sets-net, Else-depth-gt-DEEPEST, Else-number-ne-ACCEPTED, Else-unjoined-at_most}
+use Rattle.layout.proofs.layout.Goals.{After-at_most, After-shared_slice_known-1, Else-depth-gt-DEEPEST, Else-number-ne-ACCEPTED}
 
 small : (c : After-shared_slice_known-1) → Bytes c.args.bytes.now
 small c k = omega (arith, c.shared_slice_known-1.given k)
@@ -26,17 +26,17 @@ small c k = omega (arith, c.shared_slice_known-1.given k)
 kept : (c : Else-number-ne-ACCEPTED) → (lists_of c.args.bytes.now).number ≡ accepted
 kept c = ap (λ (r : Planned). r.number) (sym c.read_lists-lists.ensures) ∙ c.if-number-ne-ACCEPTED.false
 
-wires : (c : After-with_sets-net) → c.with_sets-net.result ≡ wires_of c.args.bytes.now
+wires : (c : After-at_most) → c.with_sets-net.result ≡ wires_of c.args.bytes.now
 wires c = c.with_sets-net.ensures ∙ ap (λ (r : Planned). with_sets r.network) c.read_lists-lists.ensures
 
-unjoined-is : (c : After-first_unjoined-unjoined) → c.first_unjoined-unjoined.result ≡ first_unjoined (wires_of c.args.bytes.now)
+unjoined-is : (c : After-at_most) → c.first_unjoined-unjoined.result ≡ first_unjoined (wires_of c.args.bytes.now)
 unjoined-is c = c.first_unjoined-unjoined.ensures ∙ ap first_unjoined (wires c)
 
 count-is : (c : After-at_most) → c.at_most.result ≡ nodes_of (wires_of c.args.bytes.now)
 count-is c = c.at_most.ensures ∙ ap nodes_of (wires c)
 
-joined : (c : Else-unjoined-at_most) → nodes_of (wires_of c.args.bytes.now) ≤ first_unjoined (wires_of c.args.bytes.now)
-joined c = omega (arith, c.if-unjoined-at_most.false, unjoined-is c, count-is c)
+joined : (c : After-at_most) → c.at_most.result ≤ c.first_unjoined-unjoined.result → nodes_of (wires_of c.args.bytes.now) ≤ first_unjoined (wires_of c.args.bytes.now)
+joined c h = omega (arith, h, unjoined-is c, count-is c)
 
 place_is : (c : Else-depth-gt-DEEPEST) → c.read_lists-lists.result.place ≡ (lists_of c.args.bytes.now).place
 place_is c = ap (λ (r : Planned). r.place) c.read_lists-lists.ensures
@@ -51,19 +51,19 @@ returns-then-number-ne-ACCEPTED c =
 pub returns-then-unjoined-at_most : goal.returns-then-unjoined-at_most
 returns-then-unjoined-at_most c =
     let args = c.args in
-    let refused = (by_unjoined args.bytes.now args.depth args.out.now (kept (goal.at.returns-then-unjoined-at_most c).Else-number-ne-ACCEPTED) (omega (arith, c.if-unjoined-at_most.true, unjoined-is (goal.at.returns-then-unjoined-at_most c).After-first_unjoined-unjoined, count-is (goal.at.returns-then-unjoined-at_most c).After-at_most))) in
-    record { answer = rw (unjoined-is (goal.at.returns-then-unjoined-at_most c).After-first_unjoined-unjoined) refused.0; written = refused.1; small = small (goal.at.returns-then-unjoined-at_most c).After-shared_slice_known-1 }
+    let refused = (by_unjoined args.bytes.now args.depth args.out.now (kept (goal.at.returns-then-unjoined-at_most c).Else-number-ne-ACCEPTED) (omega (arith, c.if-unjoined-at_most.true, unjoined-is (goal.at.returns-then-unjoined-at_most c).After-at_most, count-is (goal.at.returns-then-unjoined-at_most c).After-at_most))) in
+    record { answer = rw (unjoined-is (goal.at.returns-then-unjoined-at_most c).After-at_most) refused.0; written = refused.1; small = small (goal.at.returns-then-unjoined-at_most c).After-shared_slice_known-1 }
 
 pub returns-then-depth-gt-DEEPEST : goal.returns-then-depth-gt-DEEPEST
 returns-then-depth-gt-DEEPEST c =
     let args = c.args in
-    let refused = by_depth args.bytes.now args.depth args.out.now (kept (goal.at.returns-then-depth-gt-DEEPEST c).Else-number-ne-ACCEPTED) (joined (goal.at.returns-then-depth-gt-DEEPEST c).Else-unjoined-at_most) c.if-depth-gt-DEEPEST.true in
+    let refused = by_depth args.bytes.now args.depth args.out.now (kept (goal.at.returns-then-depth-gt-DEEPEST c).Else-number-ne-ACCEPTED) (joined (goal.at.returns-then-depth-gt-DEEPEST c).After-at_most c.if-unjoined-at_most.false) c.if-depth-gt-DEEPEST.true in
     record { answer = refused.0; written = refused.1; small = small (goal.at.returns-then-depth-gt-DEEPEST c).After-shared_slice_known-1 }
 
 pub returns-then-out-place : goal.returns-then-out-place
 returns-then-out-place c =
     let args = c.args in
-    let refused = by_room args.bytes.now args.depth args.out.now (kept (goal.at.returns-then-out-place c).Else-number-ne-ACCEPTED) (joined (goal.at.returns-then-out-place c).Else-unjoined-at_most) c.if-depth-gt-DEEPEST.false (omega (arith, c.if-out-place.true, place_is (goal.at.returns-then-out-place c).Else-depth-gt-DEEPEST)) in
+    let refused = by_room args.bytes.now args.depth args.out.now (kept (goal.at.returns-then-out-place c).Else-number-ne-ACCEPTED) (joined (goal.at.returns-then-out-place c).After-at_most c.if-unjoined-at_most.false) c.if-depth-gt-DEEPEST.false (omega (arith, c.if-out-place.true, place_is (goal.at.returns-then-out-place c).Else-depth-gt-DEEPEST)) in
     record { answer = refused.0; written = refused.1; small = small (goal.at.returns-then-out-place c).After-shared_slice_known-1 }
 
 pub lay-requires : goal.lay-requires
@@ -72,7 +72,7 @@ lay-requires c =
     let bytes = small (goal.at.lay-requires c).After-shared_slice_known-1 in
     let pass = kept (goal.at.lay-requires c).Else-number-ne-ACCEPTED in
     let place = place_is (goal.at.lay-requires c).Else-depth-gt-DEEPEST in
-    rw (wires (goal.at.lay-requires c).After-with_sets-net) (record {
+    rw (wires (goal.at.lay-requires c).After-at_most) (record {
       there = omega (arith, place, plan_within args.bytes.now bytes pass);
       fits = search rules;
       fields = omega (arith, place, place_told args.bytes.now bytes pass);
@@ -83,5 +83,5 @@ pub returns : goal.returns
 returns c =
     let args = c.args in
     let place = place_is (goal.at.returns c).Else-depth-gt-DEEPEST in
-    let done = writes args.bytes.now args.depth args.out.now (kept (goal.at.returns c).Else-number-ne-ACCEPTED) (joined (goal.at.returns c).Else-unjoined-at_most) c.if-depth-gt-DEEPEST.false (omega (arith, c.if-out-place.false, place)) in
-    record { answer = rw place done.0; written = cc (c.lay.ensures, place, wires (goal.at.returns c).After-with_sets-net, done.1); small = small (goal.at.returns c).After-shared_slice_known-1 }
+    let done = writes args.bytes.now args.depth args.out.now (kept (goal.at.returns c).Else-number-ne-ACCEPTED) (joined (goal.at.returns c).After-at_most c.if-unjoined-at_most.false) c.if-depth-gt-DEEPEST.false (omega (arith, c.if-out-place.false, place)) in
+    record { answer = rw place done.0; written = cc (c.lay.ensures, place, wires (goal.at.returns c).After-at_most, done.1); small = small (goal.at.returns c).After-shared_slice_known-1 }
