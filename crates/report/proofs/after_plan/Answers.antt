@@ -36,11 +36,11 @@ module _ (net : Network) (bytes : List ℕ) (from : ℕ) where
 
 pub overflow_add-from : goal.overflow_add-from
 overflow_add-from c =
-    omega (arith, place_within c.args.net c.args.bytes.now c.args.from c.run-ran.result c.start-begun.result c.start-begun.ensures c.run-ran.ensures.0 c.requires.0, c.well_formed.1.0)
+    omega (arith, place_within c.args.net c.args.bytes.now c.args.from c.run-ran.result c.start-begun.result c.start-begun.ensures c.run-ran.ensures.answer c.requires.0, c.well_formed.1.0)
 
 pub returns : goal.returns
 returns c =
-    let is = text_is c.args.net c.args.bytes.now c.args.from c.run-ran.result c.start-begun.result c.start-begun.ensures c.run-ran.ensures.0 c.count-clusters.result c.count-clusters.ensures in
+    let is = text_is c.args.net c.args.bytes.now c.args.from c.run-ran.result c.start-begun.result c.start-begun.ensures c.run-ran.ensures.answer c.count-clusters.result c.count-clusters.ensures in
     record {
       put = subst (λ text. Put c.args.page.now 0 text c.run_lines.result c.run_lines.new.page) is c.run_lines.ensures.put;
       short = subst (λ text. length text ≤ 2048) is c.run_lines.ensures.short;

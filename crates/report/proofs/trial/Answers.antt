@@ -8,10 +8,10 @@ use Rattle.report.proofs.trial.Goals as goal
 pub slice_bounds-whole-end : goal.slice_bounds-whole-end
 slice_bounds-whole-end c =
     let wrote = c.write_page-count.ensures in
-    all_of_it wrote.0 wrote.1 ∙ sym (ap length (stands_there wrote.0 wrote.1))
+    all_of_it wrote.put wrote.short ∙ sym (ap length (stands_there wrote.put wrote.short))
 
 pub returns : goal.returns
 returns c =
     let wrote = c.write_page-count.ensures in
-    let shown = rw (stands_there wrote.0 wrote.1) at c.whole.ensures in
-    record { count = shown.0; held = shown.1; at_most_2048 = wrote.1; small = λ k. omega (arith, c.shared_slice_known-1.given k) }
+    let shown = rw (stands_there wrote.put wrote.short) at c.whole.ensures in
+    record { count = shown.count; held = shown.held; at_most_2048 = wrote.short; small = λ k. omega (arith, c.shared_slice_known-1.given k) }

@@ -7,10 +7,12 @@ use Rattle.report.proofs.whole.Goals as goal
 pub returns-then-out-bytes : goal.returns-then-out-bytes
 returns-then-out-bytes c =
     let start = c.args in
-    no_room_lem start.out.now start.bytes.now (omega arith)
+    let left = no_room_lem start.out.now start.bytes.now (omega arith) in
+    record { count = left.0; held = left.1 }
 
 pub returns : goal.returns
 returns c =
     let start = c.args in
     let put = put_fits c.word.ensures (omega arith) in
-    has_room start.out.now start.bytes.now (omega arith) put.0 put.1
+    let there = has_room start.out.now start.bytes.now (omega arith) put.0 put.1 in
+    record { count = there.0; held = there.1 }

@@ -45,19 +45,19 @@ pub returns-then-number-ne-ACCEPTED : goal.returns-then-number-ne-ACCEPTED
 returns-then-number-ne-ACCEPTED c =
     let bytes = c.args.bytes.now in
     let planned = c.read_plan-planned.result in
-    let is = refused bytes (omega (arith, c.if-bytes-gt-LONGEST.false)) planned c.read_plan-planned.ensures.0 c.if-number-ne-ACCEPTED.true in
-    record { put = rw is c.end_line-then-number-ne-ACCEPTED.ensures; short = rw is (omega (arith, end_short planned.number planned.place (omega (arith, c.read_plan-planned.type-inv)) (omega (arith, c.read_plan-planned.type-inv)))) }
+    let is = refused bytes (omega (arith, c.if-bytes-gt-LONGEST.false)) planned c.read_plan-planned.ensures.answer c.if-number-ne-ACCEPTED.true in
+    record { put = rw is c.end_line-then-number-ne-ACCEPTED.ensures; short = rw is (omega (arith, end_short planned.number planned.place (omega (arith, c.read_plan-planned.type_inv)) (omega (arith, c.read_plan-planned.type_inv)))) }
 
 pub after_plan-requires : goal.after_plan-requires
 after_plan-requires c =
     let bytes = c.args.bytes.now in
     let small : Bytes bytes = λ k. omega (arith, c.shared_slice_known-1.given k) in
-    let is = c.read_plan-planned.ensures.0 in
+    let is = c.read_plan-planned.ensures.answer in
     let none : (plan_of bytes).number ≡ 0 = ap (λ r. r.number) (sym is) ∙ c.if-number-ne-ACCEPTED.false in
     (rw is (plan_ends bytes small none), rw is (at_most_64 bytes small none))
 
 pub returns : goal.returns
 returns c =
     let bytes = c.args.bytes.now in
-    let is = taken bytes (omega (arith, c.if-bytes-gt-LONGEST.false)) c.read_plan-planned.result c.read_plan-planned.ensures.0 c.if-number-ne-ACCEPTED.false in
+    let is = taken bytes (omega (arith, c.if-bytes-gt-LONGEST.false)) c.read_plan-planned.result c.read_plan-planned.ensures.answer c.if-number-ne-ACCEPTED.false in
     record { put = rw is c.after_plan.ensures.put; short = rw is c.after_plan.ensures.short }
