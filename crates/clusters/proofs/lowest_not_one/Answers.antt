@@ -1,5 +1,4 @@
 use borrow.Author.Rules.{rules}
-use Prim.Native.Nat.{◌-◌}
 use mathlib.Core.Path.{sym, ◌∙◌, ap₂}
 use Rattle.laws.proofs.Below.{first_start, first_more, first_found, first_end}
 use Rattle.clusters.specs.Clusters.{not_one}
