@@ -1,4 +1,4 @@
-// The library for C and Rust: a whole trial, and a plan's layout. `include/teravulk.h` says the promises in words.
+// What C and Rust call: a whole trial, and a plan's layout. `teravulk_c` exports both, and `include/teravulk.h` says the promises in words.
 #![tactic(auto)]
 
 ghost use Rattle.std.specs.Prelude.{◌≤◌, ◌≡◌, length};
@@ -8,8 +8,7 @@ ghost use Rattle.report.specs.Report.{text_of, written_in, filled_by};
 
 // Any bytes, any buffer: the text at the buffer's start, and how many bytes it has; or, in a buffer that is too short for the whole text,
 // nothing, and 0.
-#[unsafe(no_mangle)]
-pub extern "C" fn teravulk_trial(bytes: &[u8], out: &mut [u8]) -> usize
+pub fn teravulk_trial(bytes: &[u8], out: &mut [u8]) -> usize
     ensures count { result ≡ written_in (length out.old) (text_of bytes.now) }
     ensures held { out.new ≡ filled_by out.old (text_of bytes.now) }
     ensures at_most { length (text_of bytes.now) ≤ 2048 }
@@ -20,13 +19,7 @@ pub extern "C" fn teravulk_trial(bytes: &[u8], out: &mut [u8]) -> usize
 
 // Any bytes, any depth, any buffer: the layout's number, and its place where one is lent. The buffer begins with the plan laid out, or, after a
 // refusal, is as it was.
-#[unsafe(no_mangle)]
-pub extern "C" fn teravulk_layout(
-    bytes: &[u8],
-    depth: usize,
-    out: &mut [u8],
-    place: &mut usize,
-) -> usize
+pub fn teravulk_layout(bytes: &[u8], depth: usize, out: &mut [u8], place: &mut usize) -> usize
     ensures number { result ≡ (layout_of bytes.now depth (length out.old)).number }
     ensures place { place.new ≡ (layout_of bytes.now depth (length out.old)).place }
     ensures written { out.new ≡ laid_in bytes.now depth out.old }
