@@ -99,3 +99,4 @@ layout_comes k (inr (inr (inr (inr (inr (inl e)))))) = subst Comes (sym e) each_
 layout_comes k (inr (inr (inr (inr (inr (inr (inl e))))))) = subst Comes (sym e) each_comes.unjoined
 layout_comes k (inr (inr (inr (inr (inr (inr (inr (inl e)))))))) = subst Comes (sym e) each_comes.too_deep_lem
 layout_comes k (inr (inr (inr (inr (inr (inr (inr (inr (inl e))))))))) = subst Comes (sym e) each_comes.no_room_lem
+layout_comes k (inr (inr (inr (inr (inr (inr (inr (inr (inr x))))))))) = elim x [ ]

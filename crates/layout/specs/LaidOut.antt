@@ -2,7 +2,7 @@
 -- crate claims.
 -- Assumes nothing.
 use Rattle.std.specs.Prelude.{ℕ, ◌<◌, ◌≡◌, Bool, List, map, length, get_or}
-use Rattle.records.specs.Plan.{Plan, network_of}
+use Rattle.records.specs.Plan.{Plan}
 use Rattle.links.specs.Links.{has_link}
 use Rattle.plan.specs.Accepted.{plan_network}
 use Rattle.claims.specs.Claimed.{Claims, ClaimedSo}

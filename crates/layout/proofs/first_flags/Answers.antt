@@ -1,4 +1,4 @@
-use Prim.Native.Nat.{◌+◌, ◌<◌, ◌-◌}
+use Prim.Native.Nat.{◌+◌, ◌<◌}
 use mathlib.Core.Path.{sym, ◌∙◌, ap₂, subst}
 use borrow.Author.Rules.{rules}
 use Rattle.laws.proofs.Below.{over_start, over_more, over_end}

@@ -2,8 +2,6 @@
 use borrow.Author.Rules.{rules}
 use mathlib.Core.Path.{sym, ◌∙◌}
 use Rattle.layout.proofs.Flags.{flag_inside, flag_met, flag_new}
-use Rattle.layout.proofs.flag.Reads as reads
-use Rattle.layout.proofs.flag.Lts as lts
 use Rattle.layout.proofs.flag.Goals as goal
 
 pub returns-then-x-y : goal.returns-then-x-y

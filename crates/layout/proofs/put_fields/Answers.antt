@@ -1,4 +1,4 @@
-use Prim.Native.Nat.{◌+◌, ◌*◌, ◌<◌, ◌-◌}
+use Prim.Native.Nat.{◌+◌, ◌*◌, ◌<◌}
 use native.Mathlib.Nat.{le_antisymm}
 use native.Mathlib.Omega.{arith}
 use mathlib.Core.Path.{refl, sym, ◌∙◌, ap}
@@ -6,8 +6,6 @@ use borrow.Author.Rules.{rules}
 use lib.ListN.{length, set, get_or, length-set}
 use Rattle.laws.proofs.Below.{fold_start, fold_more}
 use Rattle.layout.specs.Layout.{with_fields}
-use Rattle.layout.proofs.put_fields.Reads as reads
-use Rattle.layout.proofs.put_fields.Lts as lts
 use Rattle.layout.proofs.put_fields.Goals as goal
 use Rattle.layout.proofs.put_fields.Goals.{In-loop-k}
 

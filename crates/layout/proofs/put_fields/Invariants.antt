@@ -3,8 +3,6 @@ use Prim.Native.Nat.{◌≤◌, ◌-◌}
 use mathlib.Core.Path.{◌≡◌}
 use lib.ListN.{length}
 use Rattle.layout.specs.Layout.{with_fields}
-use Rattle.layout.proofs.put_fields.Reads as reads
-use Rattle.layout.proofs.put_fields.Lts as lts
 use Rattle.layout.proofs.put_fields.Given as goal
 
 abbrev pub invariant-loop-k : goal.invariant-loop-k
