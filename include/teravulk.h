@@ -1,6 +1,6 @@
 /* Teravulk: a trial of duct-pressure controllers, bytes in, text out; and the layout of a plan's clusters, bytes in, bytes out.
  *
- * Link with target/staticlib/libteravulk.a (`rt staticlib teravulk`, x86-64 Linux). examples/ has callers in C and in Rust. */
+ * Link with crates/teravulk_c/out/libteravulk_c.a (`rt lib` in crates/teravulk_c, x86-64 Linux). examples/ has callers in C and in Rust. */
 #ifndef TERAVULK_H
 #define TERAVULK_H
 
