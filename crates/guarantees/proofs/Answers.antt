@@ -32,7 +32,6 @@ use Rattle.synchronizer.specs.Answer.{stands_in, starts_round, count_answer, eve
 use Rattle.synchronizer.specs.Valid.{StateClauses}
 use Rattle.automaton.specs.Actions.{Act, Place, a_node, a_link, a_preferred_link, a_child, a_root, body_of}
 use Rattle.automaton.specs.Network.{is_root}
-use Rattle.automaton.specs.Needs.{packet_first, ack_first}
 use Rattle.automaton.specs.Global.{Global}
 use Rattle.automaton.specs.Lists.{every}
 use Rattle.automaton.specs.Answer.{must, packet_at_front, ack_at_front, met, fits, known, legal, next, in_time, enabled, room, answer}

@@ -8,7 +8,6 @@ use mathlib.Core.Path.{◌≡◌, refl, sym, ◌∙◌, ap, subst}
 use mathlib.Core.Bool.{Bool, true, false}
 use lib.ListN.{get_or, set}
 use lib.Seq.{get_or-set_same, get_or-set_other}
-use Rattle.laws.specs.Choice.{if_b}
 use Rattle.laws.proofs.Choice.{if_b_no, true_not_false}
 use Rattle.network.specs.declared.Network.{Network}
 use Rattle.network.specs.Valid.{valid_network}

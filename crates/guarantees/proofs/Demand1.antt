@@ -2,18 +2,15 @@
 -- states are those that the struct's type allows (`Sized`), the bytes those of a slice (`Bytes`); of networks nothing is asked.
 -- Assumes nothing.
 use Prim.Native.Nat.{ℕ, ◌<◌}
-use native.Mathlib.Omega.{arith}
-use mathlib.Core.Path.{◌≡◌, refl, sym, ◌∙◌, ap, subst}
-use mathlib.Core.Logic.{◌⊎◌, inl, inr}
-use mathlib.Core.Bool.{true, false}
-use mathlib.Core.List.{List, [], ◌∷◌}
+use mathlib.Core.Path.{◌≡◌, refl, sym, ap, subst}
+use mathlib.Core.Logic.{inl, inr}
+use mathlib.Core.List.{List}
 use lib.ListN.{length}
 use Rattle.laws.specs.Lists.{Bytes}
-use Rattle.laws.proofs.Choice.{b_elim, lt_elim, eq_elim}
+use Rattle.laws.proofs.Choice.{b_elim, lt_elim}
 use Rattle.network.specs.declared.Network.{Network}
 use Rattle.network.specs.Valid.{valid_network}
 use Rattle.records.specs.declared.Planned.{Planned}
-use Rattle.records.specs.Numbers.{accepted}
 use Rattle.records.specs.Keeps.{BreaksAt, bytes_end, unknown, short, whole, BreaksFirst, order, number, range}
 use Rattle.records.specs.Plan.{Plan}
 use Rattle.records.specs.declared.Record.{Record}

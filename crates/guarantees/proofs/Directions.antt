@@ -10,9 +10,8 @@ use mathlib.Core.Bool.{true}
 use mathlib.Core.List.{List}
 use lib.ListN.{length, get_or, set, replicate, length-set, length-replicate}
 use lib.Seq.{get_or-set_same, get_or-set_other}
-use Rattle.laws.specs.Choice.{if_lt}
 use Rattle.laws.specs.Below.{fold_below}
-use Rattle.laws.proofs.Choice.{if_lt_yes, if_lt_no, lt_elim}
+use Rattle.laws.proofs.Choice.{if_lt_yes, if_lt_no}
 use Rattle.laws.proofs.Below.{fold_keeps}
 use Rattle.network.specs.declared.Network.{Network}
 use Rattle.network.specs.Sets.{Ends, rising, falling}

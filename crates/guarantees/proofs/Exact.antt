@@ -43,16 +43,14 @@ use Rattle.actions.specs.Kinds.{count, kinds}
 use Rattle.queue.specs.Queue.{head_of, packet_first, ack_first, room_answer, pushed, moved_up, popped, heard_in}
 use Rattle.synchronizer.specs.declared.State.{State}
 use Rattle.synchronizer.specs.declared.Ran.{Ran}
-use Rattle.synchronizer.specs.After.{state_of}
-use Rattle.synchronizer.specs.Answer.{answer_of}
-use Rattle.guarantees.specs.Trials.{plan_t, plan_p, pair}
+use Rattle.guarantees.specs.Trials.{plan_t, pair}
 use native.Mathlib.Omega.{arith}
 use native.Mathlib.Decide.{ℕ_discrete}
 use lib.Seq.{get_or-set_same, get_or-set_other}
 use Rattle.laws.proofs.Choice.{if_b_yes, both_yes, eq_elim}
 use Rattle.laws.proofs.Entries.{repeated_at}
 use Rattle.synchronizer.proofs.States.{entry_of, past_of, sort_of, load_of, Passes, passes_valid}
-use Rattle.ranges.specs.Fits.{used_by, entry_fits, row_fits, counts_fit, lengths_fit, sort_fits, sorts_fit, load_fits, loads_fit, past_fits, rest_fits, state_fits}
+use Rattle.ranges.specs.Fits.{used_by, entry_fits, sort_fits}
 use Rattle.synchronizer.specs.declared.Done.{Done}
 use Rattle.synchronizer.specs.declared.Acted.{Acted}
 use Rattle.synchronizer.specs.Valid.{valid_state}

@@ -28,7 +28,7 @@ use Rattle.synchronizer.specs.Answer.{senders_have, every_has}
 use Rattle.automaton.specs.Actions.{Act, output, packet_sent, packet_delivered, ack_sent, ack_delivered, ok, subtree_ok_sent, subtree_ok_delivered, cluster_ok}
 use Rattle.automaton.specs.Actions.{down_sent, down_delivered, preferred_sent, preferred_delivered, up_sent, up_delivered, cluster_go}
 use Rattle.automaton.specs.Actions.{subtree_go_sent, subtree_go_delivered, go, input, body_of}
-use Rattle.automaton.specs.Network.{is_root, neighbours, children, preferred_neighbours}
+use Rattle.automaton.specs.Network.{is_root, children, preferred_neighbours}
 use Rattle.automaton.specs.Needs.{Need, has, know, may}
 use Rattle.automaton.specs.Lists.{every}
 use Rattle.automaton.specs.Answer.{met}

@@ -1,11 +1,11 @@
 -- The limits, pinned from bytes on both sides: what is just inside is taken, and one more is not. A definition and its code that have a limit wrong in
 -- the same way pass every other proof, and break here.
 -- Assumes nothing.
-use Prim.Native.Nat.{ℕ, zero, suc, ◌+◌, ◌<◌, ◌≤◌}
+use Prim.Native.Nat.{ℕ, zero, suc}
 use native.Mathlib.Omega.{arith}
-use mathlib.Core.Path.{◌≡◌, refl, sym, ◌∙◌, ap}
+use mathlib.Core.Path.{◌≡◌, refl}
 use mathlib.Core.List.{List, [], ◌∷◌, ◌++◌}
-use lib.ListN.{length, replicate, length-replicate}
+use lib.ListN.{replicate, length-replicate}
 use Rattle.laws.specs.Choice.{if_b, if_lt, if_eq, both}
 use Rattle.laws.specs.Below.{all_below, sum_below, count_below, fold_below, first_of, over_below, list_below, pick_below}
 use Rattle.laws.specs.Lists.{total}
@@ -35,28 +35,14 @@ use Rattle.synchronizer.specs.Answer.{stands_in, starts_round, count_answer, sen
 use Rattle.synchronizer.specs.After.{mean_heard, effect_in, counted, after_in}
 use Rattle.synchronizer.specs.Start.{fresh_with, start_of}
 use Rattle.synchronizer.specs.Entry.{in_range, done_in, done_of, acted_as, record_in, act_in, act_of, list_from, list_of}
-use Rattle.network.specs.declared.Network.{Network}
-use Rattle.actions.specs.declared.Kind.{Kind}
-use Rattle.actions.specs.declared.Kind.TheVariants.{Output, PacketSent}
-use Rattle.actions.specs.Kinds.{count, kinds}
 use Rattle.queue.specs.Queue.{head_of, packet_first, ack_first, room_answer, pushed, moved_up, popped, heard_in}
-use Rattle.synchronizer.specs.declared.State.{State}
-use Rattle.synchronizer.specs.declared.Ran.{Ran}
-use Rattle.synchronizer.specs.After.{state_of}
-use Rattle.synchronizer.specs.Answer.{answer_of}
-use Rattle.ranges.specs.Fits.{used_by, entry_fits, row_fits, counts_fit, lengths_fit, sort_fits, sorts_fit, load_fits, loads_fit, past_fits, rest_fits, state_fits}
-use Rattle.synchronizer.specs.declared.Done.{Done}
-use Rattle.synchronizer.specs.declared.Acted.{Acted}
-use Rattle.synchronizer.specs.Valid.{valid_state}
-use Rattle.actions.specs.declared.Kind.TheVariants.{SubtreeOkSent, Ok}
 use Rattle.actions.specs.declared.Kind.TheVariants.{AckSent}
 use Rattle.records.specs.declared.Record.{Record}
-use Rattle.records.specs.Keeps.{EachKeeps, with_all, records_bytes, Refused1to5, BreaksAt, BreaksFirst}
+use Rattle.records.specs.Keeps.{EachKeeps, with_all, records_bytes, BreaksAt, BreaksFirst}
 use Rattle.plan.specs.Accepted.{Refused}
 use Rattle.text.specs.Lines.{glyph, digits_in, decimal, fields, line}
-use Rattle.report.specs.Lines.{end_line}
 use Rattle.report.specs.Report.{text_of}
-use Rattle.guarantees.proofs.Witnesses.{full, roots}
+use Rattle.guarantees.proofs.Witnesses.{full}
 use Rattle.guarantees.proofs.Exact.{T, by_method}
 use Rattle.guarantees.proofs.Promised.{text_too_long, text_refused}
 

@@ -10,9 +10,9 @@ use mathlib.Core.List.{List, [], ◌∷◌, ◌++◌}
 use lib.ListN.{length, get_or, drop, length-append}
 use lib.Dec.{eqb}
 use Rattle.laws.specs.Lists.{Bytes}
-use Rattle.laws.specs.Choice.{if_b, if_lt, if_eq}
+use Rattle.laws.specs.Choice.{if_b}
 use Rattle.laws.specs.Below.{sum_below, count_below, pick_below}
-use Rattle.laws.proofs.Choice.{b_elim, lt_elim, if_b_yes, if_b_no, if_lt_yes, if_lt_no, if_eq_yes, if_eq_no, true_not_false}
+use Rattle.laws.proofs.Choice.{if_b_yes, if_b_no, if_lt_yes, if_lt_no, if_eq_yes, if_eq_no, true_not_false}
 use Rattle.network.specs.declared.Network.{Network}
 use Rattle.network.specs.Valid.{valid_network, Clauses}
 use Rattle.network.specs.Zeros.{zero_network}
@@ -29,26 +29,22 @@ use Rattle.plan.proofs.Answers.{accepted_plan, refused_plan}
 use Rattle.plan.proofs.Valid.{accepted_is_valid}
 use Rattle.lockstep.specs.Table.{table_number, table_of}
 use Rattle.lockstep.proofs.Tables.{refused_unwritten, table_length, table_at, table_past}
-use Rattle.actions.specs.declared.Kind.TheVariants.{Output, Input}
 use Rattle.synchronizer.specs.declared.State.{State}
 use Rattle.synchronizer.specs.declared.Done.{Done}
 use Rattle.synchronizer.specs.declared.Ran.{Ran}
 use Rattle.synchronizer.specs.Start.{fresh_with, start_of}
 use Rattle.synchronizer.specs.Entry.{list_of}
-use Rattle.synchronizer.specs.Valid.{Sized}
 use Rattle.synchronizer.proofs.Keeps.{start_sized, start_valid}
 use Rattle.automaton.specs.Actions.{Act, output, input}
 use Rattle.automaton.specs.Network.{is_root}
-use Rattle.automaton.specs.Clusters.{Near}
 use Rattle.automaton.specs.Global as Global
 use Rattle.automaton.specs.Run.{run}
-use Rattle.automaton.specs.Answer.{answer}
 use Rattle.automaton.specs.Lockstep.{lockstep}
 use Rattle.automaton.proofs.Demand as Automaton
 use Rattle.report.specs.Lines.{plan_line, node_line, node_lines, taken_line, end_line}
 use Rattle.report.specs.Report.{run_text, list_text, planned_text, text_of, written_in, filled_by}
 use Rattle.guarantees.specs.Reading.{net_of, count_of, read}
-use Rattle.guarantees.specs.Outcome.{MethodOutcome, ActOutcome, ListOutcome}
+use Rattle.guarantees.specs.Outcome.{ListOutcome}
 use Rattle.guarantees.specs.Steps.{started, finished}
 use Rattle.guarantees.specs.Plans as page
 use Rattle.guarantees.specs.Promise as Promise

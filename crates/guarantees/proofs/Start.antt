@@ -17,16 +17,13 @@ use Rattle.network.proofs.Valid.{valid_limits}
 use Rattle.laws.specs.Mean.{rule_of}
 use Rattle.lockstep.specs.Rounds.{next_by, lockstep_of}
 use Rattle.lockstep.proofs.Rounds.{lockstep_start, rounds_at}
-use Rattle.actions.specs.Kinds.{kinds, cell_of}
 use Rattle.synchronizer.specs.declared.Done.{Done}
 use Rattle.synchronizer.specs.Start.{fresh_with, start_of}
 use Rattle.laws.proofs.Entries.{repeated_at}
-use Rattle.automaton.specs.Network.{neighbours}
 use Rattle.automaton.specs.Global.{begin}
 use Rattle.automaton.specs.Lockstep.{lockstep}
 use Rattle.guarantees.specs.Reading.{cell_at, seat_of, joins, direction_of, net_of, seated, count_of, waiting_in, read}
 use Rattle.guarantees.proofs.Links.{nodes_below, neighbour_is, neighbours_are}
-use Rattle.guarantees.proofs.Seats.{counter_of}
 use Rattle.guarantees.proofs.After.{same_global}
 
 -- a test with 0 on both sides

@@ -2,7 +2,7 @@
 -- state of a valid network is known to be in range, so what is computed of a row is its plan, its list and its table.
 -- Assumes nothing.
 use Prim.Native.Nat.{ℕ, suc}
-use mathlib.Core.Path.{◌≡◌, refl, sym, ◌∙◌, ap}
+use mathlib.Core.Path.{◌≡◌, refl, ◌∙◌, ap}
 use mathlib.Core.Bool.{true}
 use mathlib.Core.List.{List, [], ◌∷◌}
 use lib.ListN.{length}
@@ -38,11 +38,10 @@ use Rattle.synchronizer.specs.Entry.{in_range, done_in, done_of, acted_as, recor
 use Rattle.laws.proofs.Choice.{if_b_yes, both_yes}
 use Rattle.network.specs.declared.Network.{Network}
 use Rattle.queue.specs.Queue.{head_of, packet_first, ack_first, room_answer, pushed, moved_up, popped, heard_in}
-use Rattle.records.specs.declared.Planned.{Planned}
 use Rattle.synchronizer.specs.declared.Done.{Done}
 use Rattle.synchronizer.proofs.Keeps.{start_valid}
-use Rattle.guarantees.specs.Trials.{Trial, End, trial, end, ended, given, starred, P-whole-round, P-up-before-down, worked}
-use Rattle.guarantees.specs.Trials.{T-lockstep, P-lockstep-1, P-lockstep-2, P-lockstep-3, early_packet, ok_with_no_ack, second_output_of_1, second_output_of_2, packet_0_to_2, node_7, empty_plan, each_the_others_parent, two_roots_no_link}
+use Rattle.guarantees.specs.Trials.{Trial, End, ended, given, starred, P-whole-round, P-up-before-down, worked}
+use Rattle.guarantees.specs.Trials.{T-lockstep, P-lockstep-1, P-lockstep-2, P-lockstep-3, early_packet, ok_with_no_ack, second_output_of_1, second_output_of_2, packet_0_to_2, node_7}
 
 -- from the start state of a valid network the list is run with no further look at 17
 pub from_start : (net : Network) (bytes : List ℕ) → length net.starts ≡ 64 → valid_network net ≡ true → list_of net (start_of net).state bytes ≡ list_from (suc (length bytes)) (wires_of net) (fresh_with net.starts) bytes 0 0

@@ -35,8 +35,6 @@ use Rattle.synchronizer.specs.After.{mean_heard, effect_in, counted, after_in}
 use Rattle.synchronizer.specs.Start.{fresh_with, start_of}
 use Rattle.synchronizer.specs.Entry.{in_range, done_in, done_of, acted_as, record_in, act_in, act_of, list_from, list_of}
 use lib.ListN.{set, replicate}
-use Rattle.network.specs.declared.Network.{Network}
-use Rattle.actions.specs.declared.Kind.{Kind}
 use Rattle.actions.specs.declared.Kind.TheVariants.{Output, PacketSent}
 use Rattle.actions.specs.Kinds.{count, kinds}
 use Rattle.queue.specs.Queue.{head_of, packet_first, ack_first, room_answer, pushed, moved_up, popped, heard_in}
@@ -44,7 +42,7 @@ use Rattle.synchronizer.specs.declared.State.{State}
 use Rattle.synchronizer.specs.declared.Ran.{Ran}
 use Rattle.synchronizer.specs.After.{state_of}
 use Rattle.synchronizer.specs.Answer.{answer_of}
-use Rattle.guarantees.specs.Trials.{plan_t, plan_p, pair}
+use Rattle.guarantees.specs.Trials.{plan_t, pair}
 use Rattle.guarantees.proofs.Trials.{from_start}
 
 -- the first n nodes, each a root

@@ -1,12 +1,10 @@
 -- Document 01's starred trials, one table: a plan's bytes, the actions' bytes, how many lockstep rounds, and the end of each that document 01
 -- gives. `proofs/Trials.antt` shows that the definitions of the public contracts give every row.
 -- Assumes nothing.
-use Rattle.std.specs.Prelude.{ℕ, List, [], ◌∷◌, ◌++◌, map, take, replicate}
-use Rattle.network.specs.declared.Network.{Network}
+use Rattle.std.specs.Prelude.{ℕ, List, [], ◌∷◌, ◌++◌, take, replicate}
 use Rattle.records.specs.declared.Planned.{Planned}
 use Rattle.plan.specs.Checks.{plan_of}
 use Rattle.lockstep.specs.Table.{table_of}
-use Rattle.synchronizer.specs.declared.State.{State}
 use Rattle.synchronizer.specs.declared.Ran.{Ran}
 use Rattle.synchronizer.specs.Start.{start_of}
 use Rattle.synchronizer.specs.Entry.{list_of}

@@ -2,13 +2,13 @@
 -- Assumes nothing.
 use Prim.Native.Nat.{ℕ, ◌≤◌}
 use native.Mathlib.Omega.{arith}
-use mathlib.Core.Path.{◌≡◌, refl, ◌∙◌, ap}
+use mathlib.Core.Path.{◌≡◌, ap}
 use mathlib.Core.List.{List}
 use lib.ListN.{length}
 use Rattle.laws.specs.Lists.{Bytes}
 use Rattle.network.specs.Sets.{with_sets}
 use Rattle.records.specs.Plan.{network_of}
-use Rattle.records.specs.Reader.{answered, accepted_with}
+use Rattle.records.specs.Reader.{answered}
 use Rattle.plan.specs.Checks.{plan_of}
 use Rattle.plan.specs.Accepted.{Accepted}
 use Rattle.plan.proofs.Answers.{answer_accepted_plan}

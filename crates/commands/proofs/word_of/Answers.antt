@@ -1,6 +1,5 @@
 -- `word_of`: `same` tells whether the bytes are the word's.
 use Rattle.laws.proofs.Choice.{true_not_false}
-use borrow.Author.Rules.{rules}
 use Rattle.commands.proofs.Words.{is_layout, is_unknown}
 use Rattle.commands.proofs.word_of.Goals as goal
 

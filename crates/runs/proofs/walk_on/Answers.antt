@@ -1,5 +1,4 @@
 use borrow.Author.Rules.{rules}
-use Prim.Native.Nat.{◌-◌}
 use Rattle.runs.proofs.walk_on.Goals as goal
 
 pub overflow_step : goal.overflow_step

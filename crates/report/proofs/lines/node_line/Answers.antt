@@ -1,7 +1,6 @@
 -- `node_line`: the line is `text`'s. A node number and three u16 have at most five digits each.
 use native.Mathlib.Omega.{arith}
 use mathlib.Core.List.{[], ◌∷◌}
-use borrow.Author.Rules.{rules}
 use Rattle.text.proofs.Lines.{EachBelow, line_length}
 use Rattle.report.proofs.lines.node_line.Goals as goal
 
