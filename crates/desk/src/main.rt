@@ -17,7 +17,7 @@ const LETTERS: usize = 16;
 const DIGITS: usize = 20;
 
 // The argument's bytes at the start of the buffer, and how many they are: none, where it is not there or is longer than the buffer.
-fn argument(rt: &impl Env, i: usize, buffer: &mut [u8]) -> usize
+fn argument(rt: HostRuntime, i: usize, buffer: &mut [u8]) -> usize
     ensures { IsPrefixLen result buffer.new }
 {
     rt.arg(i, buffer).unwrap_or(0)
@@ -35,7 +35,7 @@ fn print(rt: HostRuntime, output: &[u8], errors: &[u8]) -> ExitCode {
 // `desk layout DEPTH`. One byte more than the longest input tells one that is too long.
 fn layout(rt: HostRuntime) -> ExitCode {
     let mut digits = [0u8; DIGITS];
-    let length = argument(&rt, 2, &mut digits);
+    let length = argument(rt, 2, &mut digits);
     let Number::Is(depth) = decimal(&digits[..length]) else {
         return print(rt, b"", b"depth: Invalid argument\n");
     };
@@ -56,7 +56,7 @@ fn layout(rt: HostRuntime) -> ExitCode {
 // A wrong word, or none, gets the list of words.
 fn main(rt: HostRuntime) -> ExitCode {
     let mut letters = [0u8; LETTERS];
-    let length = argument(&rt, 1, &mut letters);
+    let length = argument(rt, 1, &mut letters);
     match word_of(&letters[..length]) {
         Word::Layout => layout(rt),
         Word::Unknown => print(rt, b"", b"desk layout DEPTH\n"),
