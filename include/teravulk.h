@@ -24,7 +24,7 @@ extern "C" {
  * give equal text.
  *
  * It keeps nothing between calls, allocates nothing, calls nothing but memcpy and memset, and writes to no memory but `out` and its own stack. So
- * any number of threads may call it at once, each with an `out` of its own. It takes at most 93 KB of stack. These are not proved but checked:
+ * any number of threads may call it at once, each with an `out` of its own. It takes at most 93 KB of stack (measured with rattle-kit-5b). These are not proved but checked:
  * examples/run looks for the archive's data and calls, and has the callers run in 128 KB of stack.
  *
  * What the caller owes: neither pointer is NULL, also where its length is 0; `bytes` can be read and `out` read and written for the lengths given;
@@ -50,7 +50,7 @@ size_t teravulk_trial(const uint8_t *bytes, size_t count, uint8_t *out, size_t r
  * copied.
  *
  * All of this is proved, for every content and length of both, and every `depth`. What is said above of data, calls, memory and threads holds of
- * this function too. It takes at most 19 KB of stack.
+ * this function too. It takes at most 19 KB of stack (measured with rattle-kit-5b).
  *
  * What the caller owes is as above; besides, `place` is not NULL and can be read and written, it overlaps neither `bytes` nor `out`, and nothing
  * else reads or writes it during the call. */
