@@ -1,6 +1,7 @@
 /* Teravulk: a trial of duct-pressure controllers, bytes in, text out; and the layout of a plan's clusters, bytes in, bytes out.
  *
- * Link with crates/teravulk_c/out/libteravulk_c.a (`rt lib` in crates/teravulk_c, x86-64 Linux). examples/ has callers in C and in Rust. */
+ * Link with libteravulk.a (x86-64 Linux): `rt lib` in crates/teravulk_c writes it as out/libteravulk_c.a there; copy it under this name, as
+ * examples/run does. examples/ has callers in C and in Rust. */
 #ifndef TERAVULK_H
 #define TERAVULK_H
 
@@ -24,8 +25,8 @@ extern "C" {
  * give equal text.
  *
  * It keeps nothing between calls, allocates nothing, calls nothing but memcpy and memset, and writes to no memory but `out` and its own stack. So
- * any number of threads may call it at once, each with an `out` of its own. It takes at most 93 KB of stack (measured with rattle-kit-5b). These are not proved but checked:
- * examples/run looks for the archive's data and calls, and has the callers run in 128 KB of stack.
+ * any number of threads may call it at once, each with an `out` of its own. It takes at most 93 KB of stack (measured with rattle-kit-5b). These are
+ * not proved but checked: examples/run looks for the archive's data and calls, and has the callers run in 128 KB of stack.
  *
  * What the caller owes: neither pointer is NULL, also where its length is 0; `bytes` can be read and `out` read and written for the lengths given;
  * the two do not overlap; and nothing else writes to either, or reads `out`, during the call. */

@@ -6,7 +6,7 @@ use std::io;
 use std::io::Stdout;
 
 // The answers by number; the clauses of 17 in document 01's order; and then the other counts. What is written goes to standard output; why that
-// failed, where it did, is told with the report.
+// failed, where it did, is answered in place of the report.
 #[derive(Clone, Copy)]
 pub struct Tally {
     counts: [usize; 40],
@@ -176,7 +176,7 @@ fn write_counts(tally: &Tally) -> io::Result<()> {
     Ok(())
 }
 
-// A difference of which nothing could be written is told before the report.
+// Whether all that was found could be written: a report that begins after a difference was lost would look whole.
 fn written(tally: &Tally) -> io::Result<()> {
     match tally.failed {
         Some(why) => Err(why),
