@@ -1,4 +1,5 @@
 pub mod Below
+pub mod Chains
 pub mod Choice
 pub mod Entries
 pub mod Faults
