@@ -1,4 +1,5 @@
 pub mod Digits
+pub mod Listed
 pub mod Lowest
 pub mod Marks
 pub mod Members

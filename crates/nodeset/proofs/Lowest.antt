@@ -1,9 +1,10 @@
 -- A number and the number before it agree but for the lowest set digit and those below it, so that the mask of the two clears just that digit.
 -- Assumes nothing.
-use Prim.Native.Nat.{ℕ, zero, suc, ◌-◌, ◌/◌, ◌%◌, ◌^◌, ◌<◌}
+use Prim.Native.Nat.{ℕ, zero, suc, ◌+◌, ◌-◌, ◌/◌, ◌%◌, ◌^◌, ◌<◌}
 use native.Mathlib.Omega.{arith}
-use mathlib.Core.Path.{◌≡◌, refl, sym, ◌∙◌, ap}
-use lib.Bits.{bit_and, and_step, and_self}
+use native.Mathlib.Decide.{dec_lt}
+use mathlib.Core.Path.{◌≡◌, refl, sym, ◌∙◌, ap, subst}
+use lib.Bits.{bit_and, and_step, and_self, and_zero_l}
 use lib.Count.{count_trailing_zeros, under}
 use Rattle.laws.proofs.Choice.{if_b_yes, if_b_no}
 use Rattle.nodeset.specs.Marks.{member, removed, lowest_of}
@@ -35,3 +36,15 @@ mask_removes_lowest m some fits =
 pub none_removes_none : (k : ℕ) → removed 0 k ≡ 0
 unfolding removed
 none_removes_none k = if_b_no (member 0 k) (0 - 2 ^ k) 0 (empty_has_none k)
+
+-- the code's mask: the number before 0 is the highest, and of 0 the mask leaves nothing
+pub wrapped_mask : (m : ℕ) → m < 2 ^ 64 → bit_and m ((m + 18446744073709551615) % 18446744073709551616) ≡ removed m (lowest_of m)
+wrapped_mask m fits = at (dec_lt 0 m)
+  where
+    at : Dec (0 < m) → bit_and m ((m + 18446744073709551615) % 18446744073709551616) ≡ removed m (lowest_of m)
+    at (yes some) =
+        let before : (m + 18446744073709551615) % 18446744073709551616 ≡ m - 1 = omega arith in
+        ap (bit_and m) before ∙ mask_removes_lowest m some fits
+    at (no none) =
+        let e : 0 ≡ m = omega arith in
+        subst (λ n. bit_and n ((n + 18446744073709551615) % 18446744073709551616) ≡ removed n (lowest_of n)) e (and_zero_l ((0 + 18446744073709551615) % 18446744073709551616) ∙ sym (none_removes_none (lowest_of 0)))

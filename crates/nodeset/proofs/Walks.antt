@@ -2,16 +2,20 @@
 -- and of the set without it.
 -- Assumes nothing.
 use Prim.Native.Nat.{ℕ, ◌^◌, ◌<◌}
+use native.Mathlib.Omega.{arith}
 use native.Mathlib.Decide.{ℕ_discrete}
 use mathlib.Core.Path.{◌≡◌, sym, ◌∙◌, ap, subst}
-use mathlib.Core.Bool.{Bool, true, false}
+use mathlib.Core.Bool.{true, false}
 use mathlib.Core.List.{List}
+use lib.Dec.{eqb}
+use borrow.Author.Tests.{eqb-false}
 use lib.ListN.{length, get_or, set}
 use lib.Seq.{get_or-set_same, get_or-set_other}
-use Rattle.nodeset.specs.Marks.{member, removed, lowest_of, all_in}
+use Rattle.nodeset.specs.Marks.{member, removed, lowest_of, size_of}
+use Rattle.nodeset.specs.Walks.{Taken}
 use Rattle.laws.proofs.Choice.{true_not_false}
-use Rattle.nodeset.proofs.Marks.{lowest_is_in, lowest_below, removed_less, removed_keeps_others, empty_has_none}
-use Rattle.nodeset.proofs.Members.{all_in_rest, all_in_fails, all_in_empty}
+use Rattle.nodeset.proofs.Marks.{lowest_is_in, lowest_below, removed_keeps_others, empty_has_none}
+use Rattle.nodeset.proofs.Members.{size_rest}
 
 module _ (m q : ℕ) (low : q ≡ lowest_of m) where
   pub lowest_low : 0 < m → m < 2 ^ 64 → q < 64
@@ -20,22 +24,19 @@ module _ (m q : ℕ) (low : q ≡ lowest_of m) where
   pub lowest_in : 0 < m → m < 2 ^ 64 → member m q ≡ true
   lowest_in p f = subst (λ k. member m k ≡ true) (sym low) (lowest_is_in m (lowest_below m p f))
 
-  pub walk_less : (rest : ℕ) → 0 < m → m < 2 ^ 64 → rest ≡ removed m (lowest_of m) → rest < m
-  walk_less rest p f e =
-      subst (λ k. k < m) (ap (removed m) low ∙ sym e) (removed_less m q (lowest_in p f))
+-- a step of `NodeSet::members`, and that it leaves one member fewer
+pub takes : (left q rest : ℕ) → false ≡ eqb left 0 → left < 2 ^ 64 → q ≡ lowest_of left → rest ≡ removed left (lowest_of left) → Taken left q rest
+takes left q rest some f low e =
+    let p : 0 < left = omega (arith, eqb-false left 0 (sym some)) in
+    record {
+      lowest = low;
+      is_in = lowest_in left q low p f;
+      below_64 = lowest_low left q low p f;
+      others = e ∙ ap (removed left) (sym low);
+    }
 
-  module _ (t : ℕ → Bool) where
-    -- the lowest member passes: the rest decides
-    pub walk_on : (rest : ℕ) → t q ≡ true → rest ≡ removed m (lowest_of m) → all_in t m ≡ all_in t rest
-    walk_on rest e r = all_in_rest t m q e ∙ ap (all_in t) (ap (removed m) low ∙ sym r)
-
-    -- it fails: it decides
-    pub walk_stops : 0 < m → m < 2 ^ 64 → t q ≡ false → false ≡ all_in t m
-    walk_stops p f e = sym (all_in_fails t m q (lowest_in p f) e)
-
--- nobody is left
-pub walk_ends : (t : ℕ → Bool) (m : ℕ) → m ≡ 0 → true ≡ all_in t m
-walk_ends t m e = sym (ap (all_in t) e ∙ all_in_empty t)
+pub fewer : (left q rest : ℕ) → Taken left q rest → size_of rest < size_of left
+fewer left q rest t = omega (arith, size_rest left q t.is_in, ap size_of t.others)
 
 -- ---- a walk that fills a table by member: what stands at each member passed is what f gives there
 
@@ -57,6 +58,11 @@ module _ (f : ℕ → ℕ) (all : ℕ) where
       at (no d) =
           get_or-set_other xs q k v 0 d
           ∙ filled k i (sym (removed_keeps_others m q k d) ∙ ap (λ j. member (removed m j) k) low ∙ ap (λ s. member s k) (sym r) ∙ o)
+
+  -- the same at a step of `NodeSet::members`
+  pub fill_taken : (left q rest v : ℕ) (xs : List ℕ) → Taken left q rest → q < length xs → v ≡ f q → Filled left xs → Filled rest (set xs q v)
+  fill_taken left q rest v xs t h e filled =
+      fill_on left q rest v xs t.lowest h e (t.others ∙ ap (removed left) t.lowest) filled
 
   pub fill_end : (m : ℕ) (xs : List ℕ) → m ≡ 0 → Filled m xs → (k : ℕ) → member all k ≡ true → get_or xs k 0 ≡ f k
   unfolding Filled

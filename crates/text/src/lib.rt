@@ -1,22 +1,17 @@
 // Text in a lent buffer: bytes, and lines of a word and decimal numbers, from a place on. No call asks for room: what would stand past the
-// end of the buffer is left out, and the answer is the place where the writing stopped.
+// end of the buffer is left out, and the answer is the place where the writing stopped. Buffer and place
+// stay two parameters: the public `word` and `line` have them, and `Put` speaks of both.
 #![tactic(auto)]
 
 ghost use Rattle.std.specs.Prelude.{◌≡◌, [], ◌∷◌, ◌+◌, ◌<◌};
-ghost use Rattle.text.specs.Lines.{glyph, decimal, fields, line as line_of};
+ghost use Rattle.text.specs.Lines.{decimal, fields, line as line_of};
 ghost use Rattle.text.specs.Put.{Put};
 
-const BLANK: u8 = 32;
+use itoa::Buffer;
 
-const LINE_FEED: u8 = 10;
+const BLANK: u8 = b' ';
 
-#[tactic(auto, unfolding(crate::specs::Lines::glyph))]
-fn digit(n: u64) -> u8
-    requires { n < 10 }
-    ensures { result ≡ glyph n }
-{
-    48 + n as u8
-}
+const LINE_FEED: u8 = b'\n';
 
 fn byte(out: &mut [u8], at: usize, b: u8) -> usize
     ensures { Put out.old at (b ∷ []) result out.new }
@@ -33,10 +28,8 @@ pub fn word(out: &mut [u8], at: usize, bytes: &[u8]) -> usize
     ensures { Put out.old at bytes.now result out.new }
 {
     let mut place = at;
-    let mut i = 0;
-    while i < bytes.len() {
-        place = byte(out, place, bytes[i]);
-        i += 1;
+    for b in bytes {
+        place = byte(out, place, *b);
     }
     place
 }
@@ -45,11 +38,7 @@ pub fn word(out: &mut [u8], at: usize, bytes: &[u8]) -> usize
 fn number(out: &mut [u8], at: usize, n: u64) -> usize
     ensures { Put out.old at (decimal n) result out.new }
 {
-    if n < 10 {
-        return byte(out, at, digit(n));
-    }
-    let place = number(out, at, n / 10);
-    byte(out, place, digit(n % 10))
+    word(out, at, Buffer::new().format(n).as_bytes())
 }
 
 // A blank, and the number.
@@ -64,10 +53,8 @@ fn fields_of(out: &mut [u8], at: usize, numbers: &[u64]) -> usize
     ensures { Put out.old at (fields numbers.now) result out.new }
 {
     let mut place = at;
-    let mut i = 0;
-    while i < numbers.len() {
-        place = field(out, place, numbers[i]);
-        i += 1;
+    for n in numbers {
+        place = field(out, place, *n);
     }
     place
 }

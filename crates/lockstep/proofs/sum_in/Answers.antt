@@ -1,57 +1,28 @@
-use Prim.Native.Nat.{ℕ, ◌<◌}
+-- `sum_in`: the chain gives the value that was heard from each member, and each is at most 65,535.
+use Prim.Native.Nat.{ℕ, ◌≤◌, ◌*◌}
 use native.Mathlib.Omega.{arith}
-use mathlib.Core.Path.{◌≡◌, ap}
-use mathlib.Core.Bool.{true}
 use borrow.Author.Rules.{rules}
+use mathlib.Core.Path.{◌≡◌, ◌∙◌, ap}
 use lib.ListN.{get_or}
-use Rattle.nodeset.specs.Marks.{member, removed, size_of, sum_in}
-use Rattle.nodeset.proofs.Marks.{lowest_is_in, lowest_below, removed_less}
-use Rattle.nodeset.proofs.Members.{sum_in_rest, sum_in_empty, size_rest}
-use Rattle.nodeset.proofs.Members.{size_at_most_64}
+use Rattle.std.proofs.lemmas.Iterator.{YieldsList-from_map}
+use Rattle.std.proofs.lemmas.Iterator.Consumers.{YieldsList-at, sum_from_yields_List, fits_from_yields_list}
+use Rattle.nodeset.specs.Marks.{sum_in, size_of}
+use Rattle.nodeset.proofs.Members.{sum_in_at_most, size_at_most_64}
+use Rattle.nodeset.proofs.Listed.{members_yield, sum_of_values}
 use Rattle.lockstep.proofs.sum_in.Goals as goal
-use Rattle.lockstep.proofs.sum_in.Goals.{After-lowest-q, After-without_lowest-others}
 
--- the lowest member of what is left is a member of it
-is-in : (c : After-lowest-q) → member c.loop-rest.rest.marks c.lowest-q.result ≡ true
-is-in c =
-    let rest = c.loop-rest.rest.marks in
-    rw c.lowest-q.ensures (lowest_is_in rest (lowest_below rest (search rules) (search rules)))
-
-low : (c : After-lowest-q) → c.lowest-q.result < 64
-low c =
-    let rest = c.loop-rest.rest.marks in
-    rw c.lowest-q.ensures (lowest_below rest (search rules) (search rules))
-
--- what is left after the turn is the set without that member
-taken : (c : After-without_lowest-others) → c.without_lowest-others.result.marks ≡ removed c.loop-rest.rest.marks c.lowest-q.result
-taken c = rw c.lowest-q.ensures c.without_lowest-others.ensures
-
-pub offset_bounds-heard-q : goal.offset_bounds-heard-q
-offset_bounds-heard-q c = omega (arith, low (goal.at.offset_bounds-heard-q c).After-lowest-q)
-
-pub bounds-heard-q : goal.bounds-heard-q
-bounds-heard-q c = low (goal.at.bounds-heard-q c).After-lowest-q
-
-pub overflow_add-sum : goal.overflow_add-sum
-overflow_add-sum c =
-    let rest = c.loop-rest.rest.marks in
-    omega (arith, size_rest rest c.lowest-q.result (is-in (goal.at.overflow_add-sum c).After-lowest-q), size_at_most_64 c.args.set.marks)
-
-pub loop-rest-smaller : goal.loop-rest-smaller
-loop-rest-smaller c =
-    let rest = c.loop-rest.rest.marks in
-    rw (taken (goal.at.loop-rest-smaller c).After-without_lowest-others) (removed_less rest c.lowest-q.result (is-in (goal.at.loop-rest-smaller c).After-lowest-q))
-
-pub loop-rest-preserved : goal.loop-rest-preserved
-loop-rest-preserved c =
+pub sum-requires-clause-fits : goal.sum-requires-clause-fits
+sum-requires-clause-fits c =
     let f : ℕ → ℕ = λ q. get_or c.args.heard.now q 0 in
-    let rest = c.loop-rest.rest.marks in
-    let q = c.lowest-q.result in
-    let i : member rest q ≡ true = is-in (goal.at.loop-rest-preserved c).After-lowest-q in
-    (omega (arith, ap (sum_in f) (taken (goal.at.loop-rest-preserved c).After-without_lowest-others), sum_in_rest f rest q i), omega (arith, ap size_of (taken (goal.at.loop-rest-preserved c).After-without_lowest-others), size_rest rest q i))
+    let bound : sum_in f c.members.result ≤ size_of c.members.result * 65535 = sum_in_at_most f 65535 c.members.result (λ q _. omega (arith, c.fits-heard q)) in
+    fits_from_yields_list c.map.result _
+    (YieldsList-from_map _ f (YieldsList-at c.map.ensures.source (members_yield _)) c.map.ensures.closure (λ x r q k. search rules))
+    (omega (arith, sum_of_values f c.members.result, size_at_most_64 c.members.result))
 
 pub returns : goal.returns
 returns c =
     let f : ℕ → ℕ = λ q. get_or c.args.heard.now q 0 in
-    let none : c.loop-rest.rest.marks ≡ 0 = search rules in
-    (omega (arith, ap (sum_in f) none, sum_in_empty f), omega arith)
+    let bound : sum_in f c.args.set.marks ≤ size_of c.args.set.marks * 65535 = sum_in_at_most f 65535 c.args.set.marks (λ q _. omega (arith, c.fits-heard q)) in
+    let total = sum_from_yields_List c.map.result _ c.sum.ensures.ran (YieldsList-from_map _ f (YieldsList-at c.map.ensures.source (members_yield _)) c.map.ensures.closure (λ x r q k. search rules)) in
+    let is : c.sum.result ≡ sum_in f c.args.set.marks = total ∙ sum_of_values f c.members.result ∙ ap (sum_in f) c.members.ensures in
+    (is, omega arith)

@@ -1,22 +1,22 @@
-use native.Mathlib.Omega.{arith}
 use mathlib.Core.Path.{sym}
 use Rattle.laws.specs.Mean.{rule_of}
-use Rattle.lockstep.proofs.Rounds.{rounds_start, rounds_more, rounds_end}
+use Rattle.lockstep.specs.Rounds.{lockstep_of}
+use Rattle.lockstep.proofs.Rounds.{lockstep_start, rounds_more, rounds_end}
 use Rattle.lockstep.proofs.values_after.Goals as goal
 
-pub loop-k-init : goal.loop-k-init
-loop-k-init c =
-    let start = c.args in
-    (omega arith, sym (rounds_start rule_of start.sets.now start.nodes start.starts.now))
+pub loop-init : goal.loop-init
+loop-init c = sym (lockstep_start c.args.net.now)
 
-pub loop-k-preserved : goal.loop-k-preserved
-loop-k-preserved c =
-    let start = c.args in
-    let at = c.loop-k in
-    (omega arith, rounds_more rule_of start.sets.now start.nodes start.starts.now at.k at.values c.round-next.result at.invariant.1 c.round-next.ensures)
+pub loop-preserved : goal.loop-preserved
+unfolding lockstep_of
+loop-preserved c =
+    let net = c.args.net.now in
+    let at = c.loop in
+    rounds_more rule_of net.neighbours net.nodes net.starts at.counter at.values c.round-values.result at.invariant c.round-values.ensures
 
 pub returns : goal.returns
+unfolding lockstep_of
 returns c =
-    let start = c.args in
-    let at = c.loop-k in
-    rounds_end rule_of start.sets.now start.nodes start.starts.now start.rounds at.k at.values at.invariant.1 at.invariant.0 c.loop-k-test.false
+    let net = c.args.net.now in
+    let at = c.loop in
+    rounds_end rule_of net.neighbours net.nodes net.starts c.args.rounds at.counter at.values at.invariant at.auto.counter-end c.loop-test.false

@@ -4,10 +4,10 @@ use Rattle.laws.proofs.Choice.{picks}
 use Rattle.network.specs.Sets.{added}
 use Rattle.network.proofs.add.Goals as goal
 
-pub returns-then-at-ge64 : goal.returns-then-at-ge64
+pub returns-then-at-lt64 : goal.returns-then-at-lt64
 unfolding added
-returns-then-at-ge64 c = search (rules, picks)
+returns-then-at-lt64 c = rw c.insert.ensures (search (rules, picks))
 
-pub returns : goal.returns
+pub returns-else-at-lt64 : goal.returns-else-at-lt64
 unfolding added
-returns c = rw c.insert-with.ensures (search (rules, picks))
+returns-else-at-lt64 c = search (rules, picks)

@@ -6,8 +6,8 @@ use Rattle.network.proofs.adopt.Goals as goal
 
 pub returns-then-p-q : goal.returns-then-p-q
 unfolding adopted
-returns-then-p-q c = search (rules, picks)
+returns-then-p-q c = rw c.add.ensures (search (rules, picks))
 
-pub returns : goal.returns
+pub returns-else-p-q : goal.returns-else-p-q
 unfolding adopted
-returns c = rw c.add.ensures (search (rules, picks))
+returns-else-p-q c = search (rules, picks)

@@ -1,23 +1,23 @@
 -- `link`: an end above 63 changes neither table; else each end goes into the other's set, and where the flag serves so in the second table.
 use borrow.Author.Rules.{rules}
-use mathlib.Core.Logic.{inl, inr}
+use Prim.Native.Nat.{◌≤◌}
+use mathlib.Core.Logic.{◌⊎◌, inl, inr}
 use Rattle.laws.proofs.Choice.{picks}
 use Rattle.network.specs.Sets.{linked}
 use Rattle.network.proofs.Tables.{linked_past}
 use Rattle.network.proofs.link.Goals as goal
 
-pub returns-then-a-ge64 : goal.returns-then-a-ge64
-returns-then-a-ge64 c = (linked_past _ _ _ _ 0 (inl c.if-a-ge64.true), linked_past _ _ _ _ 1 (inl c.if-a-ge64.true))
-
-pub returns-then-b-ge64 : goal.returns-then-b-ge64
-returns-then-b-ge64 c = (linked_past _ _ _ _ 0 (inr c.if-b-ge64.true), linked_past _ _ _ _ 1 (inr c.if-b-ge64.true))
-
-pub returns-then-flag-lt1 : goal.returns-then-flag-lt1
+pub returns-then-flag-gt0 : goal.returns-then-flag-gt0
 unfolding linked
-returns-then-flag-lt1 c = rw (c.add-2.ensures, c.add.ensures) (search (rules, picks))
-
-pub returns : goal.returns
-unfolding linked
-returns c =
-    rw (c.add-4.ensures, c.add-3.ensures, c.add-2.ensures, c.add.ensures)
+returns-then-flag-gt0 c =
+    rw (c.add-then-flag-gt0-2.ensures, c.add-then-flag-gt0.ensures, c.add-then-b-lt64.ensures, c.add.ensures)
     (search (rules, picks))
+
+pub returns-else-flag-gt0 : goal.returns-else-flag-gt0
+unfolding linked
+returns-else-flag-gt0 c = rw (c.add-then-b-lt64.ensures, c.add.ensures) (search (rules, picks))
+
+pub returns-else-a-lt64 : goal.returns-else-a-lt64
+returns-else-a-lt64 c =
+    let past : (64 ≤ c.args.a) ⊎ (64 ≤ c.args.b) = elim c.else-a-lt64.either [ inl h ↦ inr h.1 | inr h ↦ inl h ] in
+    (linked_past _ _ _ _ 0 past, linked_past _ _ _ _ 1 past)

@@ -1,17 +1,11 @@
--- `pair_rises`: the tests are the definition's.
-use borrow.Author.Rules.{rules}
-use Rattle.laws.proofs.Choice.{picks, tests}
+-- `pair_rises`: the order of pairs is the definition's.
+use native.Mathlib.Omega.{arith}
+use Rattle.std.proofs.lemmas.Bool.Decides.{nat_tests}
+use mathlib.Core.Path.{◌∙◌}
+use Rattle.laws.specs.Choice.{if_lt, if_eq, if_b}
 use Rattle.network.specs.Valid.{rises}
 use Rattle.network.proofs.pair_rises.Goals as goal
 
-pub returns-then-a-c : goal.returns-then-a-c
-unfolding rises
-returns-then-a-c c = search (rules, picks, tests)
-
-pub returns-then-a-c-2 : goal.returns-then-a-c-2
-unfolding rises
-returns-then-a-c-2 c = search (rules, picks, tests)
-
 pub returns : goal.returns
-unfolding rises
-returns c = search (rules, picks, tests)
+unfolding rises if_lt if_eq if_b
+returns c = c.lt.ensures ∙ grind (arith, nat_tests)

@@ -1,26 +1,12 @@
-use native.Mathlib.Omega.{arith}
-use lib.Seq.{take_all}
 use Rattle.text.specs.Lines.{fields}
-use Rattle.text.proofs.Put.{put_none, put_then, put_length}
+use Rattle.text.proofs.Put.{put_none, put_then}
 use Rattle.text.proofs.Lines.{field_more}
 use Rattle.text.proofs.fields_of.Goals as goal
 
-pub loop-i-init : goal.loop-i-init
-loop-i-init c =
-    let start = c.args in
-    (omega arith, unfold fields in put_none start.out.now start.at)
+pub loop-n-init : goal.loop-n-init
+unfolding fields
+loop-n-init c = put_none c.args.out.now c.args.at
 
-pub loop-i-preserved : goal.loop-i-preserved
-loop-i-preserved c =
-    let start = c.args in (
-      omega arith,
-      rw (field_more start.numbers.now c.loop-i.i c.loop-i-test.true) (put_then c.loop-i.invariant.1 c.field-place.ensures),
-    )
-
-pub shape_of-out : goal.shape_of-out
-shape_of-out c = put_length c.loop-i.invariant.1
-
-pub returns : goal.returns
-returns c =
-    let numbers = c.args.numbers.now in
-    rw (take_all c.loop-i.i numbers c.loop-i-test.false) at c.loop-i.invariant.1
+pub loop-n-preserved : goal.loop-n-preserved
+loop-n-preserved c =
+    rw (field_more c.args.numbers.now c.loop-n.n-index c.loop-n-test.true) (put_then c.loop-n.invariant c.field-place.ensures)

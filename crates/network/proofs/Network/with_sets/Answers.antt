@@ -6,4 +6,4 @@ pub returns : goal.returns
 unfolding with_sets
 returns c =
     let sets = c.link_sets.ensures in
-    rw (c.child_sets-children.ensures, sets.0, sets.1, c.at_most-nodes.ensures, c.at_most-links.ensures)
+    rw (c.child_sets.ensures, sets.0, sets.1)

@@ -1,5 +1,0 @@
--- `number`: n / 10 is below n where n has two digits or more.
-use Rattle.text.proofs.+number.Given as goal
-
-abbrev pub decreases-number : goal.decreases-number
-decreases-number l = l.n
