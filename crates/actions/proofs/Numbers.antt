@@ -1,6 +1,6 @@
 -- What holds of every kind is a test computed over the table of kinds: each kind stands there, at its own index.
 -- Assumes nothing.
-use Prim.Native.Nat.{ℕ, ◌+◌, ◌<◌, ◌≤◌}
+use Prim.Native.Nat.{ℕ, ◌+◌, ◌-◌, ◌<◌, ◌≤◌}
 use mathlib.Core.Path.{◌≡◌, refl, subst}
 use mathlib.Core.Bool.{Bool, true}
 use lib.Dec.{lit<, eqb, leb}
@@ -53,6 +53,11 @@ number_from_16 k = leb-true 16 (number_of k) (every_kind (λ j. leb 16 (number_o
 pub number_at : (i : ℕ) → i < length kinds → number_of (kind_at i) ≡ 16 + i
 unfolding number_of kind_at all_below both if_b
 number_at i h = eqb-true (number_of (kind_at i)) (16 + i) (all_at (λ j. eqb (number_of (kind_at j)) (16 + j)) (length kinds) refl i h)
+
+-- a kind's number is that of the first kind and its index
+pub placed : (k : Kind) → (16 ≤ number_of k) × (number_of k - 16 < length kinds)
+unfolding index_of
+placed k = (number_from_16 k, (seated k).0)
 
 -- the table of body lengths has each kind's at the kind's index
 pub body_at : (i : ℕ) → i < length kinds → get_or body_table i 0 ≡ body_of (kind_at i)

@@ -8,7 +8,7 @@ ghost use Rattle.counts.specs.Counts.{children_have};
 use actions::{Counter, Kind};
 use nodeset::NodeSet;
 
-// A count that is below another can rise.
+// A count that is below another can rise: what `<` alone does not tell its caller.
 pub fn below(n: u16, has: u16) -> bool
     ensures { (result ≡ ltb n has) × (result ≡ true → n < 65535) }
 {
@@ -19,23 +19,13 @@ pub fn below(n: u16, has: u16) -> bool
 pub fn above(counts: &[u16; 5120], n: u16, c: Counter) -> bool
     ensures { result ≡ ltb n (count_in counts.now c) }
 {
-    let at = actions::cell(c);
-    n < counts[at]
+    n < counts[actions::cell(c)]
 }
 
 // The word came from every child in the set.
 pub fn children_have(counts: &[u16; 5120], word: Kind, n: u16, set: NodeSet) -> bool
     ensures { result ≡ children_have counts.now word n set.marks }
 {
-    let mut rest = set;
-    while 0 < rest.marks {
-        let c = rest.lowest() as u8;
-        if above(counts, n, Counter(word, c)) {
-            let others = rest.without_lowest();
-            rest = others;
-        } else {
-            return false;
-        }
-    }
-    true
+    set.members()
+        .all(|c| above(counts, n, Counter(word, c as u8)))
 }

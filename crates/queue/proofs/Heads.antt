@@ -1,11 +1,10 @@
--- What a queue's first message says of a delivery: the laws of `let .. else` on it.
+-- What a queue's first message says of a delivery: that it is none of the other sort.
 -- Assumes nothing.
 use Prim.Native.Nat.{ℕ}
-use mathlib.Core.Path.{◌≡◌, refl, sym, ap}
+use mathlib.Core.Path.{◌≡◌, refl}
 use mathlib.Core.List.{List}
-use lib.ListN.{set}
 use Rattle.queue.specs.declared.Head.{Head}
-use Rattle.queue.specs.Queue.{packet_first, ack_first, slot_at, heard_in}
+use Rattle.queue.specs.Queue.{packet_first, ack_first, heard_in}
 
 pub no_packet : (h : Head) → ((v : ℕ) → h ≡ Head.Packet v → ⊥) → 16 ≡ packet_first h
 unfolding packet_first
@@ -20,12 +19,7 @@ no_ack Head.Ack t = absurd (t refl)
 no_ack Head.Empty t = refl
 
 module _ (slots : List ℕ) (d i : ℕ) where
-  -- a packet's value is heard
-  pub packet_heard : (h : Head) (v : ℕ) → h ≡ Head.Packet v → set slots (slot_at d i) v ≡ heard_in slots h d i
-  unfolding heard_in
-  packet_heard h v e = sym (ap (λ x. heard_in slots x d i) e)
-
-  -- nothing else is
+  -- what is no packet is not heard
   pub nothing_heard : (h : Head) → ((v : ℕ) → h ≡ Head.Packet v → ⊥) → slots ≡ heard_in slots h d i
   unfolding heard_in
   nothing_heard (Head.Packet v) t = absurd (t v refl)

@@ -3,6 +3,8 @@
 use Rattle.std.specs.Prelude.{ℕ, ◌+◌, ◌-◌, ◌*◌, ◌%◌, List, get_or, set}
 use Rattle.laws.specs.Choice.{if_lt, if_eq}
 use Rattle.queue.specs.declared.Head.{Head}
+use Rattle.queue.specs.declared.Message.{Message}
+use Rattle.queue.specs.declared.Queues.{Queues}
 
 -- the sorts of a waiting message
 abbrev pub packet : ℕ
@@ -10,6 +12,15 @@ packet = 1
 
 abbrev pub ack : ℕ
 ack = 2
+
+-- how a message stands at its place: its sort, and the value that it carries, an ack none
+abbrev pub sort_of : Message → ℕ
+sort_of (Message.Packet v) = packet
+sort_of Message.Ack = ack
+
+abbrev pub load_of : Message → ℕ
+load_of (Message.Packet v) = v
+load_of Message.Ack = 0
 
 -- the first message of direction d
 unfoldable pub head_of : List ℕ → List ℕ → List ℕ → ℕ → Head
@@ -34,11 +45,6 @@ unfoldable pub room_answer : ℕ → ℕ
 room_answer len = if_lt len 2 0 18
 
 -- the queues of all directions: how many wait, and the sort and the value of each
-pub record Queues : Type 0 where
-  pub lens : List ℕ
-  pub sorts : List ℕ
-  pub loads : List ℕ
-
 abbrev pub queues : List ℕ → List ℕ → List ℕ → Queues
 queues lens sorts loads = record { lens = lens; sorts = sorts; loads = loads }
 

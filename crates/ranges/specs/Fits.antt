@@ -20,6 +20,10 @@ entry_fits most used x n = leb n (if_lt x used most 0)
 unfoldable pub row_fits : ℕ → ℕ → List ℕ → Kind → Bool
 row_fits rounds used counts k = all_below (λ x. entry_fits rounds used x (count_in counts (count k x))) 256
 
+-- a row of 256 held against the most that each of its entries may be
+unfoldable pub row_within : List ℕ → List ℕ → Bool
+row_within row limits = all_below (λ x. leb (get_or row x 0) (get_or limits x 0)) 256
+
 unfoldable pub counts_fit : ℕ → ℕ → ℕ → List ℕ → Bool
 counts_fit nodes links rounds counts =
     all_below (λ i. row_fits rounds (used_by nodes links (kind_at i)) counts (kind_at i)) (length kinds)
@@ -32,6 +36,10 @@ lengths_fit links lens = all_below (λ d. entry_fits 2 (links * 2) d (get_or len
 unfoldable pub sort_fits : ℕ → ℕ → ℕ → Bool
 sort_fits len j sort = if_lt j len (if_eq sort packet true (eqb sort ack)) (eqb sort 0)
 
+-- what is wrong of it as a number, 0 where nothing is: a place that holds a message, or one that does not, and a sort
+unfoldable pub sort_fault : ℕ → ℕ → ℕ
+sort_fault held sort = if_eq held 0 sort (if_eq sort packet 0 (if_eq sort ack 0 1))
+
 -- both places of each queue
 unfoldable pub sorts_fit : List ℕ → List ℕ → Bool
 sorts_fit lens sorts =
@@ -40,6 +48,10 @@ sorts_fit lens sorts =
 -- a packet carries a value; "or is an ack with a value", and what is no message has none either
 unfoldable pub load_fits : ℕ → ℕ → Bool
 load_fits sort load = if_eq sort packet true (eqb load 0)
+
+-- what is wrong of a value as a number, 0 where nothing is
+unfoldable pub load_fault : ℕ → ℕ → ℕ
+load_fault sort load = if_eq sort packet 0 load
 
 unfoldable pub loads_fit : List ℕ → List ℕ → Bool
 loads_fit sorts loads = all_below (λ e. load_fits (get_or sorts e 0) (get_or loads e 0)) 512

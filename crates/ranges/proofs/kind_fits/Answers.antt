@@ -1,14 +1,15 @@
--- `kind_fits`: the table of body lengths says whether the kind counts by node or by direction.
-use lib.ListN.{get_or}
+-- `kind_fits`: the body's length says whether the kind counts by node or by direction.
+use Rattle.std.proofs.Common.{rules}
 use Rattle.laws.proofs.Choice.{if_eq_yes, if_eq_no}
+use Rattle.ranges.proofs.Fits.{row_by_fold}
 use Rattle.ranges.proofs.kind_fits.Goals as goal
 
-pub returns-then-bodies-row-eq1 : goal.returns-then-bodies-row-eq1
-returns-then-bodies-row-eq1 c =
+pub returns-then-body-eq1 : goal.returns-then-body-eq1
+returns-then-body-eq1 c =
     let a = c.args in
-    rw (if_eq_yes (get_or a.bodies.now a.row 0) 1 a.nodes.now a.lanes.now c.if-bodies-row-eq1.true) c.row_fits.ensures
+    rw (c.excess.ensures, if_eq_yes a.body 1 a.nodes.now a.lanes.now c.if-body-eq1.true) (row_by_fold _ _ (search rules) (search rules))
 
-pub returns : goal.returns
-returns c =
+pub returns-else-body-eq1 : goal.returns-else-body-eq1
+returns-else-body-eq1 c =
     let a = c.args in
-    rw (if_eq_no (get_or a.bodies.now a.row 0) 1 a.nodes.now a.lanes.now c.if-bodies-row-eq1.false) c.row_fits-2.ensures
+    rw (c.excess-else-body-eq1.ensures, if_eq_no a.body 1 a.nodes.now a.lanes.now c.if-body-eq1.false) (row_by_fold _ _ (search rules) (search rules))

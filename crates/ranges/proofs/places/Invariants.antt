@@ -1,5 +1,5 @@
 -- `places`: after each turn both places of one more queue are written.
-use Prim.Native.Nat.{◌*◌, ◌/◌, ◌%◌, ◌≤◌, ◌-◌}
+use Prim.Native.Nat.{◌*◌, ◌/◌, ◌%◌}
 use mathlib.Core.Path.{◌≡◌}
 use lib.ListN.{get_or, replicate}
 use Rattle.laws.specs.Choice.{if_lt}
@@ -8,7 +8,4 @@ use Rattle.ranges.proofs.places.Given as goal
 
 abbrev pub invariant-loop-d : goal.invariant-loop-d
 invariant-loop-d l =
-    (l.d ≤ 256) × (l.places ≡ over_below (λ e. if_lt (e % 2) (get_or l.lens (e / 2) 0) 1 0) (l.d * 2) (replicate 512 0))
-
-abbrev pub decreases-loop-d : goal.decreases-loop-d
-decreases-loop-d l = 256 - l.d
+    l.places ≡ over_below (λ e. if_lt (e % 2) (get_or l.lens (e / 2) 0) 1 0) (l.d * 2) (replicate 512 0)
