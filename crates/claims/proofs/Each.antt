@@ -3,13 +3,16 @@
 -- Assumes nothing.
 use Prim.Native.Nat.{ℕ, zero, suc, ◌^◌, ◌<◌, ◌≤◌}
 use native.Mathlib.Omega.{arith}
-use mathlib.Core.Path.{◌≡◌, refl, ◌∙◌, ap}
-use Rattle.laws.proofs.Choice.{if_eq_yes, if_eq_no, eq_elim}
-use Rattle.nodeset.specs.Marks.{size_of, lowest_of}
-use Rattle.nodeset.proofs.Marks.{removed_fits}
-use Rattle.claims.specs.declared.Claiming.{Claiming}
-use Rattle.claims.specs.Claiming.{put, unclaimed_of, claims_each, claims_all}
-use Rattle.claims.proofs.Marks.{one_fewer}
+use mathlib.Core.Path.{◌≡◌, refl, sym, ◌∙◌, ap, subst}
+use mathlib.Core.Bool.{true}
+use lib.Bits.{bit_and}
+use Rattle.laws.proofs.Choice.{if_eq_yes, if_eq_no, eq_elim, true_not_false}
+use Rattle.nodeset.specs.Marks.{member, removed, size_of, lowest_of}
+use Rattle.nodeset.specs.Walks.{Taken}
+use Rattle.nodeset.proofs.Marks.{empty_has_none, removed_fits}
+use Rattle.nodeset.proofs.Members.{size_rest}
+use Rattle.claims.specs.Claiming.{Claiming, put, unclaimed_of, claims_each, claims_all}
+use Rattle.claims.proofs.Marks.{in_second, common_rest, one_fewer}
 
 module _ (neighbours x v : ℕ) where
   -- the next claim
@@ -38,12 +41,28 @@ module _ (neighbours x v : ℕ) where
   unfolding claims_all
   claims_end s = each_end (size_of (left s)) s
 
-  -- .. or the lowest is claimed, and the rest after it
-  pub claims_on : (s : Claiming) → left s < 2 ^ 64 → SomeLeft s → claims_all neighbours x v s ≡ claims_all neighbours x v (next s)
-  unfolding claims_all claims_each
-  claims_on s fits some =
-      ap (λ turns. claims_each turns neighbours x v s) (next_fewer s fits some)
-      ∙ if_eq_no (unclaimed_of neighbours s) 0 s (claims_each (size_of (left (next s))) neighbours x v (next s)) some
+  -- .. or the lowest is claimed, as the walk over those left takes it, and the rest after it
+  module _ (s : Claiming) (left q rest : ℕ) (are : left ≡ unclaimed_of neighbours s) (taken : Taken left q rest) where
+    in_common : member (bit_and neighbours s.unclaimed.marks) q ≡ true
+    in_common = subst (λ m. member m q ≡ true) are taken.is_in
+
+    -- who is claimed was unclaimed
+    pub taken_free : member s.unclaimed.marks q ≡ true
+    taken_free = in_second neighbours s.unclaimed.marks q in_common
+
+    pub taken_rest : neighbours < 2 ^ 64 → rest ≡ unclaimed_of neighbours (put x q v s)
+    unfolding put
+    taken_rest fits = taken.others ∙ ap (λ m. removed m q) are ∙ common_rest neighbours s.unclaimed.marks q fits
+
+    pub claims_on : claims_all neighbours x v s ≡ claims_all neighbours x v (put x q v s)
+    unfolding claims_all claims_each put
+    claims_on =
+        ap (λ turns. claims_each turns neighbours x v s) (size_rest s.unclaimed.marks q taken_free)
+        ∙ if_eq_no (unclaimed_of neighbours s) 0 s (claims_each (size_of (removed s.unclaimed.marks q)) neighbours x v (next s)) some
+        ∙ ap (λ p. claims_each (size_of (removed s.unclaimed.marks q)) neighbours x v (put x p v s)) (sym (taken.lowest ∙ ap lowest_of are))
+      where
+        some : unclaimed_of neighbours s ≡ 0 → ⊥
+        some none = true_not_false (member 0 q) (subst (λ m. member m q ≡ true) none in_common) (empty_has_none q)
 
   -- ---- the whole loop
 

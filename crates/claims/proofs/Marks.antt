@@ -4,15 +4,16 @@ use Prim.Native.Nat.{ℕ, zero, suc, ◌/◌, ◌%◌, ◌^◌, ◌<◌, ◌≤�
 use native.Mathlib.Nat.{not-suc-le-zero, lt_irrefl}
 use native.Mathlib.Omega.{arith}
 use native.Mathlib.Decide.{ℕ_discrete}
-use mathlib.Core.Path.{◌≡◌, sym, ◌∙◌, ap}
+use mathlib.Core.Path.{◌≡◌, refl, sym, ◌∙◌, ap}
 use mathlib.Core.Bool.{true}
-use lib.Bits.{bit_and, and_step, and_shr, and_le_r}
+use lib.Bits.{bit_and, and_step, and_shr, and_le_l, and_le_r}
 use Rattle.laws.specs.Below.{fold_below}
 use Rattle.laws.proofs.Below.{below_split, first_below}
-use Rattle.laws.proofs.Choice.{not_true_false, true_not_false}
+use Rattle.laws.proofs.Choice.{not_true_false, true_not_false, same_test}
+use Rattle.nodeset.specs.declared.NodeSet.{NodeSet}
 use Rattle.nodeset.specs.Marks.{digit, member, inserted, removed, size_of, lowest_of}
 use Rattle.nodeset.proofs.Digits.{digit_below_two}
-use Rattle.nodeset.proofs.Marks.{member_below, member_digit, digit_member, empty_has_none, inserted_is_in, inserted_keeps_others, inserted_fits, lowest_is_in, lowest_below}
+use Rattle.nodeset.proofs.Marks.{member_below, member_digit, digit_member, empty_has_none, inserted_is_in, inserted_keeps_others, inserted_fits, removed_fits, removed_is_out, removed_keeps_others, same_members, lowest_is_in, lowest_below}
 use Rattle.nodeset.proofs.Members.{size_rest, size_inserted, size_is_sum, sum_in_empty}
 use Rattle.claims.specs.Claiming.{all_nodes}
 
@@ -36,6 +37,24 @@ module _ (a b k : ℕ) where
     in_second =
         digit_member b k (member_below (bit_and a b) k p) (omega (arith, digit_and a b k, member_digit (bit_and a b) k p, digit_below_two b k))
 
+-- what two sets have in common without one of it is what the first has in common with the second without it
+pub common_rest : (a b q : ℕ) → a < 2 ^ 64 → removed (bit_and a b) q ≡ bit_and a (removed b q)
+common_rest a b q fits =
+    same_members (removed (bit_and a b) q) (bit_and a (removed b q)) (removed_fits (bit_and a b) q (omega (arith, and_le_l a b))) (omega (arith, and_le_l a (removed b q)))
+    (λ k _. same_test (member (removed (bit_and a b) q) k) (member (bit_and a (removed b q)) k) (there k (ℕ_discrete k q)) (back k (ℕ_discrete k q)))
+  where
+    there : (k : ℕ) → Dec (k ≡ q) → member (removed (bit_and a b) q) k ≡ true → member (bit_and a (removed b q)) k ≡ true
+    there k (yes e) i = absurd (true_not_false _ i (ap (member (removed (bit_and a b) q)) e ∙ removed_is_out (bit_and a b) q))
+    there k (no d) i =
+        let both = sym (removed_keeps_others (bit_and a b) q k d) ∙ i in
+        in_both a (removed b q) k (in_first a b k both) (removed_keeps_others b q k d ∙ in_second a b k both)
+
+    back : (k : ℕ) → Dec (k ≡ q) → member (bit_and a (removed b q)) k ≡ true → member (removed (bit_and a b) q) k ≡ true
+    back k (yes e) i = absurd (true_not_false _ (in_second a (removed b q) k i) (ap (member (removed b q)) e ∙ removed_is_out b q))
+    back k (no d) i =
+        let second = sym (removed_keeps_others b q k d) ∙ in_second a (removed b q) k i in
+        removed_keeps_others (bit_and a b) q k d ∙ in_both a b k (in_first a (removed b q) k i) second
+
 -- ---- the lowest member
 
 pub lowest_least : (m k : ℕ) → member m k ≡ true → lowest_of m ≤ k
@@ -56,6 +75,12 @@ module _ (a b : ℕ) (fits : b < 2 ^ 64) (some : bit_and a b ≡ 0 → ⊥) wher
   one_fewer = size_rest b (lowest_of (bit_and a b)) lowest_second
 
 -- ---- the nodes below n
+
+-- the set that they are put into has their marks
+pub marks_of_all : (n : ℕ) → (fold_below (λ p (s : NodeSet). record { marks = inserted s.marks p }) (record { marks = 0 }) n).marks ≡ all_nodes n
+unfolding all_nodes fold_below
+marks_of_all zero = refl
+marks_of_all (suc n) = ap (λ m. inserted m n) (marks_of_all n)
 
 pub all_in_lem : (n : ℕ) → n ≤ 64 → (p : ℕ) → p < n → member (all_nodes n) p ≡ true
 unfolding all_nodes fold_below

@@ -13,8 +13,7 @@ use Rattle.laws.proofs.Choice.{true_not_false}
 use Rattle.laws.proofs.Below.{below_split, first_found, first_none, first_passes, first_below}
 use Rattle.nodeset.specs.Marks.{member, removed}
 use Rattle.nodeset.proofs.Marks.{member_below, removed_is_out, removed_keeps_others, removed_fits}
-use Rattle.claims.specs.declared.Claiming.{Claiming}
-use Rattle.claims.specs.Claiming.{put, place_of, claims_of}
+use Rattle.claims.specs.Claiming.{Claiming, put, place_of, claims_of}
 use Rattle.claims.proofs.Begun.{OneMore}
 
 -- ---- places

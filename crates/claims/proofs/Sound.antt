@@ -1,19 +1,19 @@
 -- The loop keeps its claims sound, and as many nodes: a claim takes one node from the unclaimed and counts one more.
 -- Assumes nothing.
-use Prim.Native.Nat.{ℕ, suc, ◌+◌, ◌<◌, ◌≤◌}
+use Prim.Native.Nat.{ℕ, zero, suc, ◌+◌, ◌<◌, ◌≤◌}
 use native.Mathlib.Omega.{arith}
-use mathlib.Core.Path.{◌≡◌, refl, ◌∙◌, ap}
+use mathlib.Core.Path.{◌≡◌, refl, sym, ◌∙◌, ap, subst}
 use mathlib.Core.Bool.{true}
 use mathlib.Core.List.{List}
 use lib.ListN.{get_or}
+use Rattle.laws.specs.Below.{fold_below}
 use Rattle.laws.proofs.Choice.{lt_elim}
 use Rattle.laws.proofs.Below.{set_keeps}
 use Rattle.laws.proofs.Entries.{repeated_at}
 use Rattle.nodeset.specs.Marks.{member, removed, size_of, lowest_of}
 use Rattle.nodeset.proofs.Marks.{member_below, removed_fits, lowest_is_in, lowest_below}
 use Rattle.nodeset.proofs.Members.{size_rest, size_is_sum, sum_in_empty}
-use Rattle.claims.specs.declared.Claiming.{Claiming}
-use Rattle.claims.specs.Claiming.{put, nobody, rooted, unclaimed_of, claims_all, spread, step}
+use Rattle.claims.specs.Claiming.{Claiming, put, nobody, rooted, unclaimed_of, claims_all, spread, step}
 use Rattle.claims.specs.Sound.{nodes_of, Sound}
 use Rattle.claims.proofs.Marks.{lowest_second, all_fits, all_size}
 use Rattle.claims.proofs.Each.{next, SomeLeft, claims_keep}
@@ -58,6 +58,11 @@ lowest_left {s} sound i h l =
     let some : s.unclaimed.marks ≡ 0 → ⊥ = λ e. omega (arith, ap size_of e, size_is_sum 0, sum_in_empty (λ _. 1)) in
     lowest_is_in s.unclaimed.marks (lowest_below s.unclaimed.marks (omega arith) sound.marks_fit)
 
+-- the same of r, where s is what is seen of it
+pub root_left : {s r : Claiming} → Sound s → s ≡ r → (i : ℕ) → i < nodes_of r → s.count ≤ i → member r.unclaimed.marks (lowest_of s.unclaimed.marks) ≡ true
+root_left {s} sound e i h l =
+    subst (λ (r : Claiming). member r.unclaimed.marks (lowest_of s.unclaimed.marks) ≡ true) e (lowest_left sound i (subst (λ (r : Claiming). i < nodes_of r) (sym e) h) l)
+
 pub rooted_sound : {s : Claiming} → Sound s → (i : ℕ) → i < nodes_of s → SoundAs s (rooted i s)
 unfolding rooted
 rooted_sound {s} sound i h =
@@ -101,3 +106,17 @@ pub nobody_sound : (n : ℕ) → n ≤ 64 → Sound (nobody n)
 unfolding nobody
 nobody_sound n few =
     record { few = omega (arith, all_size n few); marks_fit = all_fits n; nodes = λ k. omega (arith, repeated_at {A = ℕ} 64 0 k) }
+
+-- ---- all steps
+
+-- after each step there are as many nodes as at the start
+module _ (sets : List ℕ) (depth n : ℕ) (few : n ≤ 64) where
+  steps_sound : (i : ℕ) → i ≤ n → SoundAs (nobody n) (fold_below (step sets depth) (nobody n) i)
+  unfolding fold_below
+  steps_sound zero h = same_as (nobody_sound n few)
+  steps_sound (suc i) h =
+      let before = steps_sound i (omega arith) in
+      then_as before (step_sound sets depth before.sound i (omega (arith, before.same, nobody_nodes n few)))
+
+  pub steps_nodes : (i : ℕ) → i ≤ n → nodes_of (fold_below (step sets depth) (nobody n) i) ≡ n
+  steps_nodes i h = (steps_sound i h).same ∙ nobody_nodes n few

@@ -16,9 +16,8 @@ use Rattle.laws.proofs.Choice.{lt_elim, true_not_false}
 use Rattle.laws.proofs.Entries.{repeated_at}
 use Rattle.nodeset.specs.Marks.{member, lowest_of}
 use Rattle.nodeset.proofs.Marks.{empty_has_none, lowest_is_in, lowest_below}
-use Rattle.claims.specs.declared.Claiming.{Claiming}
 use Rattle.claims.specs.Claimed.{MayClaim, MakesClaim, Turn, root, claim, ClaimedSo}
-use Rattle.claims.specs.Claiming.{put, all_nodes, nobody, rooted, unclaimed_of, claims_all, spread, step, claim_all, parents_of, claims_of, near_by}
+use Rattle.claims.specs.Claiming.{Claiming, put, all_nodes, nobody, rooted, unclaimed_of, claims_all, spread, step, claim_all, parents_of, claims_of, near_by}
 use Rattle.claims.proofs.Marks.{in_both, in_first, in_second, lowest_least, lowest_common, lowest_second, all_in_lem, all_below_lem, all_fits}
 use Rattle.claims.proofs.Each.{claims_keep, none_left}
 use Rattle.claims.proofs.Begun.{Begun, OneMore, Done, old_apart, done_more, begun_none, begun_more, begun_room, begun_full, begun_end}

@@ -7,8 +7,16 @@ use Rattle.std.specs.Int.Bits.{bit_and}
 use Rattle.laws.specs.Choice.{if_lt, if_eq}
 use Rattle.laws.specs.Below.{fold_below, first_of}
 use Rattle.nodeset.specs.Marks.{member, inserted, removed, size_of, lowest_of}
-use Rattle.claims.specs.declared.Claiming.{Claiming}
+use Rattle.nodeset.specs.declared.NodeSet.{NodeSet}
 use Rattle.claims.specs.Claimed.{Claims}
+
+-- the claims so far: the fields of the code's `Claiming`, which has their meaning beside each
+pub record Claiming : Type 0 where
+  pub count : ℕ
+  pub unclaimed : NodeSet
+  pub order : List ℕ
+  pub by : List ℕ
+  pub deep : List ℕ
 
 -- x claims p, at depth v
 unfoldable pub put : ℕ → ℕ → ℕ → Claiming → Claiming

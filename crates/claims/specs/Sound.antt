@@ -2,7 +2,13 @@
 -- Assumes nothing.
 use Rattle.std.specs.Prelude.{ℕ, ◌+◌, ◌^◌, ◌<◌, ◌≤◌, get_or}
 use Rattle.nodeset.specs.Marks.{size_of}
-use Rattle.claims.specs.declared.Claiming.{Claiming}
+use Rattle.claims.specs.declared.Claiming.TheInside.{Inside}
+use Rattle.claims.specs.Claiming.{Claiming}
+
+-- the fields of the code's claims, as the definitions have them
+abbrev pub seen : Inside → Claiming
+seen s =
+    record { count = s.count; unclaimed = s.unclaimed; order = s.order; by = s.by; deep = s.deep }
 
 -- how many nodes there are, claimed or not
 abbrev pub nodes_of : Claiming → ℕ

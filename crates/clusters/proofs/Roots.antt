@@ -5,20 +5,34 @@ use native.Mathlib.Omega.{arith}
 use native.Mathlib.Decide.{dec_lt}
 use mathlib.Core.Path.{◌≡◌, refl, sym, ◌∙◌, ap}
 use mathlib.Core.Logic.{◌↔◌}
+use mathlib.Core.List.{List}
 use lib.ListN.{get_or, replicate, length-replicate, get_or-replicate}
-use Rattle.laws.specs.Below.{over_below}
+use Rattle.laws.specs.Below.{over_below, list_below}
 use Rattle.laws.proofs.Choice.{lt_elim}
-use Rattle.laws.proofs.Below.{over_below_lem, over_above}
+use Rattle.laws.proofs.Below.{length_over, over_below_lem, over_above, list_is}
 use Rattle.network.specs.declared.Network.{Network}
 use Rattle.links.specs.Links.{nodes_of}
-use Rattle.tree.specs.declared.Climb.{Climb}
-use Rattle.tree.specs.declared.Climb.TheVariants.{Root, None}
+use Rattle.std.specs.Prelude.{Option, Some, None}
 use Rattle.tree.specs.Climb.{parent_in, root_from, root_number, root_of, Leads}
 use Rattle.tree.specs.Checks.{first_lost}
 use Rattle.tree.proofs.Turn.{no_node}
 use Rattle.tree.proofs.Roots.{found_exactly}
 use Rattle.tree.proofs.Checks.{root_found}
 use Rattle.clusters.specs.Clusters.{roots_of, root_table, root_at, cluster_of}
+
+-- the table is the list of what each of the 64 places leads to: past the nodes there is no root
+pub table_listed : (parents : List ℕ) (n : ℕ) → n ≤ 64 → list_below (λ p. root_number (root_from (parent_in parents) n n p)) 64 ≡ roots_of parents n
+unfolding roots_of
+table_listed parents n few =
+    sym (list_is entry 64 (over_below entry n (replicate 64 64)) 0 (length_over entry n (replicate 64 64) ∙ length-replicate {A = ℕ} 64 64) (λ k h. at k h (dec_lt k n)))
+  where
+    entry : ℕ → ℕ
+    entry p = root_number (root_from (parent_in parents) n n p)
+
+    at : (k : ℕ) → k < 64 → Dec (k < n) → get_or (over_below entry n (replicate 64 64)) k 0 ≡ entry k
+    at k h (yes l) = over_below_lem entry n (replicate 64 64) k 0 l (omega (arith, length-replicate {A = ℕ} 64 64))
+    at k h (no l) =
+        over_above entry n (replicate 64 64) k 0 (omega arith) ∙ get_or-replicate 64 k 64 0 h ∙ sym (ap root_number (no_node (parent_in parents) n n k (omega arith)))
 
 module _ (net : Network) where
   abbrev n : ℕ
@@ -51,8 +65,8 @@ module _ (net : Network) where
   unfolding cluster_of
   cluster_exactly p r h = (λ e. (found_exactly up n p r).0 (at (root_from up n n p) refl e), λ x. ap root_number ((found_exactly up n p r).1 x))
     where
-      at : (c : Climb) → root_from up n n p ≡ c → root_number c ≡ r → root_from up n n p ≡ Root r
-      at (Root s) e f = e ∙ ap Root f
+      at : (c : Option ℕ) → root_from up n n p ≡ c → root_number c ≡ r → root_from up n n p ≡ Some r
+      at (Some s) e f = e ∙ ap Some f
       at None e f = absurd (omega arith)
 
   -- where 7 does not apply, it is where as many steps as there are nodes lead

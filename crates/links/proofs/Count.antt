@@ -1,33 +1,21 @@
--- Counting below n: where a loop that counts starts and goes on, that a count is at most n, and that a count is 1 exactly where one number alone
--- passes the test.
+-- Counting below n: a count is at most n, and it is 1 exactly where one number alone passes the test.
 -- Assumes nothing.
 use Prim.Native.Nat.{ℕ, zero, suc, ◌+◌, ◌<◌, ◌≤◌}
 use native.Mathlib.Nat.{le_refl, not-suc-le-zero}
 use native.Mathlib.Omega.{arith}
 use native.Mathlib.Decide.{dec_lt}
-use mathlib.Core.Path.{◌≡◌, refl, sym, ◌∙◌, ap₂, subst}
+use mathlib.Core.Path.{◌≡◌, refl, subst}
 use mathlib.Core.Bool.{Bool, true, false}
 use Rattle.laws.specs.Choice.{if_b}
 use Rattle.laws.specs.Below.{sum_below, count_below}
 use Rattle.laws.proofs.Choice.{if_b_yes, if_b_no, b_elim, not_true_false, true_not_false}
-use Rattle.laws.proofs.Below.{below_split, sum_start, sum_more, sum_at_most, sum_zero}
+use Rattle.laws.proofs.Below.{below_split, sum_at_most, sum_zero}
 
 module _ (t : ℕ → Bool) where
-  pub count_start : count_below t 0 ≡ 0
-  unfolding count_below
-  count_start = sum_start (λ k. if_b (t k) 1 0)
-
-  pub count_more : (n c r : ℕ) → c ≡ count_below t n → r ≡ if_b (t n) 1 0 → c + r ≡ count_below t (n + 1)
-  unfolding count_below
-  count_more n c r e f = ap₂ ◌+◌ e f ∙ sym (sum_more (λ k. if_b (t k) 1 0) n)
-
   pub count_at_most : (n : ℕ) → count_below t n ≤ n
   unfolding count_below
   count_at_most n =
       omega (arith, sum_at_most (λ k. if_b (t k) 1 0) 1 n (λ k _. b_elim (λ x. x ≤ 1) (t k) 1 0 (λ _. omega arith) (λ _. omega arith)))
-
-  pub count_fits : (n c r : ℕ) → c ≡ count_below t n → r ≡ if_b (t n) 1 0 → c + r ≤ n + 1
-  count_fits n c r e f = omega (arith, count_more n c r e f, count_at_most (n + 1))
 
   pub count_none : (n : ℕ) → ((k : ℕ) → k < n → t k ≡ false) → count_below t n ≡ 0
   unfolding count_below

@@ -2,50 +2,22 @@
 // 6, 9 and 10 say of links is said here.
 #![tactic(auto)]
 
-ghost use Rattle.std.specs.Prelude.{◌≡◌, ◌≤◌, min};
-ghost use Rattle.links.specs.Links.{pair_is, joins, link_between, has_link};
+ghost use Rattle.std.specs.Prelude.{◌≡◌};
+ghost use Rattle.links.specs.Links.{links_of, joins, has_link};
 
-use network::at_most;
-
-// a and b are p and q, in this order.
-fn pair_is(a: u8, b: u8, p: u8, q: u8) -> bool
-    ensures { result ≡ pair_is a b p q }
-{
-    if a == p {
-        return b == q;
-    }
-    false
-}
+use network::Network;
 
 // a and b are p and q, in whichever order.
+#[tactic(auto, using(laws::proofs::Choice::picks), unfolding(crate::specs::Links::joins, crate::specs::Links::pair_is))]
 pub fn joins(a: u8, b: u8, p: u8, q: u8) -> bool
     ensures { result ≡ joins a b p q }
 {
-    if pair_is(a, b, p, q) {
-        return true;
-    }
-    pair_is(a, b, q, p)
-}
-
-// The first of the links that joins p and q, and their number where none does.
-fn first_of(lowers: &[u8; 128], uppers: &[u8; 128], links: usize, p: u8, q: u8) -> usize
-    requires { links ≤ 128 }
-    ensures { result ≡ link_between lowers.now uppers.now links p q }
-{
-    let mut l: usize = 0;
-    while l < links {
-        if joins(lowers[l], uppers[l], p, q) {
-            return l;
-        }
-        l += 1;
-    }
-    links
+    (a, b) == (p, q) || (a, b) == (q, p)
 }
 
 // Some link joins p and q. The list may claim any number of links, of which 128 are there to read.
-pub fn has_link(lowers: &[u8; 128], uppers: &[u8; 128], links: usize, p: u8, q: u8) -> bool
-    ensures { result ≡ has_link lowers.now uppers.now (min links 128) p q }
+pub fn has_link(net: &Network, p: u8, q: u8) -> bool
+    ensures { result ≡ has_link net.now.lowers net.now.uppers (links_of net.now) p q }
 {
-    let n = at_most(links, 128);
-    first_of(lowers, uppers, n, p, q) < n
+    (0..net.links.min(128)).any(|l| joins(net.lowers[l], net.uppers[l], p, q))
 }

@@ -16,8 +16,7 @@ use Rattle.links.specs.Links.{nodes_of, links_of, has_link, Linked}
 use Rattle.links.specs.Breach.{Breach}
 use Rattle.links.proofs.Breach.{first_is_breach, none_exactly}
 use Rattle.links.proofs.Links.{has_link_linked, linked_has_link}
-use Rattle.tree.specs.declared.Climb.{Climb}
-use Rattle.tree.specs.declared.Climb.TheVariants.{Root, None}
+use Rattle.std.specs.Prelude.{Option, Some, None}
 use Rattle.tree.specs.Climb.{parent_in, root_from, root_of, lost, IsRoot}
 use Rattle.tree.specs.Checks.{untied, first_untied, Tied, first_lost, EndsAtRoot}
 use Rattle.tree.proofs.Roots.{found_exactly, leads_root, leads_to_root_of}
@@ -72,8 +71,8 @@ module _ (net : Network) where
       (λ p _. keeps p (root_from up (nodes_of net) (nodes_of net) p) refl)
       (λ p _. breaks p)
     where
-      keeps : (p : ℕ) (c : Climb) → root_from up (nodes_of net) (nodes_of net) p ≡ c → lost c ≡ false → EndsAtRoot net p
-      keeps p (Root r) e _ = record { root = r; leads = (found_exactly up (nodes_of net) p r).0 e }
+      keeps : (p : ℕ) (c : Option ℕ) → root_from up (nodes_of net) (nodes_of net) p ≡ c → lost c ≡ false → EndsAtRoot net p
+      keeps p (Some r) e _ = record { root = r; leads = (found_exactly up (nodes_of net) p r).0 e }
       keeps p None e f = absurd (true_not_false true refl f)
 
       breaks : (p : ℕ) → lost (root_from up (nodes_of net) (nodes_of net) p) ≡ true → EndsAtRoot net p → ⊥
@@ -81,10 +80,10 @@ module _ (net : Network) where
           true_not_false (lost (root_from up (nodes_of net) (nodes_of net) p)) e (ap lost ((found_exactly up (nodes_of net) p x.root).1 x.leads))
 
   -- where 7 does not apply, the walk from each node finds the root to which as many steps as there are nodes lead
-  pub root_found : first_lost net ≡ nodes_of net → (p : ℕ) → p < nodes_of net → root_from up (nodes_of net) (nodes_of net) p ≡ Root (root_of up (nodes_of net) p)
+  pub root_found : first_lost net ≡ nodes_of net → (p : ℕ) → p < nodes_of net → root_from up (nodes_of net) (nodes_of net) p ≡ Some (root_of up (nodes_of net) p)
   root_found e p h =
       let x = (none_exactly lost_is_breach).0 e p h in
-      (found_exactly up (nodes_of net) p x.root).1 x.leads ∙ ap Root (sym (leads_to_root_of up (nodes_of net) x.leads))
+      (found_exactly up (nodes_of net) p x.root).1 x.leads ∙ ap Some (sym (leads_to_root_of up (nodes_of net) x.leads))
 
   -- and that is a root
   pub root_of_is_root : first_lost net ≡ nodes_of net → (p : ℕ) → p < nodes_of net → IsRoot up (nodes_of net) (root_of up (nodes_of net) p)

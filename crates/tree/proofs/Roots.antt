@@ -7,49 +7,48 @@ use native.Mathlib.Omega.{arith}
 use native.Mathlib.Decide.{ℕ_discrete}
 use mathlib.Core.Path.{◌≡◌, refl, sym, ◌∙◌, ap, subst}
 use mathlib.Core.Logic.{◌↔◌}
-use Rattle.tree.specs.declared.Climb.{Climb}
-use Rattle.tree.specs.declared.Climb.TheVariants.{Root, None}
+use Rattle.std.specs.Prelude.{Option, Some, None}
 use Rattle.tree.specs.Climb.{climb, root_of, root_from, IsRoot, LeadsIn, Leads}
 use Rattle.tree.proofs.Turn.{further, at_root, to_parent, turn_elim}
 use Rattle.tree.proofs.Distance.{exact_leads, root_is_own, exact_of, exact_below}
 
-none_is_no_root : {r : ℕ} → None ≡ Root r → ⊥
+none_is_no_root : {r : ℕ} → None ≡ Some r → ⊥
 none_is_no_root e =
     let z : ◌≡◌ {A = ℕ} 0 1 = cc in
     omega arith
 
 module _ (up : ℕ → ℕ) (n : ℕ) where
-  here : (p r : ℕ) → p < n → up p ≡ p → Root p ≡ Root r → Leads up n p r
+  here : (p r : ℕ) → p < n → up p ≡ p → Some p ≡ Some r → Leads up n p r
   unfolding LeadsIn
   here p r h e q =
       let s : p ≡ r = cc in
       record { steps = 0; way = (s, record { node = subst (λ y. y < n) s h; own_parent = subst (λ y. up y ≡ y) s e }) }
 
   -- a root that is found is one that the parents lead to
-  found_leads : (left p r : ℕ) → root_from up n left p ≡ Root r → Leads up n p r
+  found_leads : (left p r : ℕ) → root_from up n left p ≡ Some r → Leads up n p r
   unfolding further LeadsIn
   found_leads zero p r =
-      turn_elim up n (λ c. c ≡ Root r → Leads up n p r) 0 p (λ _ e. absurd (none_is_no_root e)) (here p r) (λ _ _ e. absurd (none_is_no_root e))
+      turn_elim up n (λ c. c ≡ Some r → Leads up n p r) 0 p (λ _ e. absurd (none_is_no_root e)) (here p r) (λ _ _ e. absurd (none_is_no_root e))
   found_leads (suc left) p r =
-      turn_elim up n (λ c. c ≡ Root r → Leads up n p r) (suc left) p (λ _ e. absurd (none_is_no_root e)) (here p r)
+      turn_elim up n (λ c. c ≡ Some r → Leads up n p r) (suc left) p (λ _ e. absurd (none_is_no_root e)) (here p r)
       (λ h _ e. let x : Leads up n (up p) r = found_leads left (up p) r e in record { steps = suc x.steps; way = (h, x.way) })
 
   -- and enough steps left find the root that the parents lead to
-  leads_found : (k left p r : ℕ) → LeadsIn up n k p r → k ≤ left → root_from up n left p ≡ Root r
+  leads_found : (k left p r : ℕ) → LeadsIn up n k p r → k ≤ left → root_from up n left p ≡ Some r
   unfolding LeadsIn
   leads_found zero left p r x h =
-      subst (λ q. root_from up n left q ≡ Root r) (sym x.0) (at_root up n left r x.1.node x.1.own_parent)
+      subst (λ q. root_from up n left q ≡ Some r) (sym x.0) (at_root up n left r x.1.node x.1.own_parent)
   leads_found (suc k) left p r x h = at (ℕ_discrete (up p) p) (leads_found k (left - 1) (up p) r x.1 (omega arith))
     where
-      at : Dec (up p ≡ p) → root_from up n (left - 1) (up p) ≡ Root r → root_from up n left p ≡ Root r
-      at (yes e) _ = at_root up n left p x.0 e ∙ ap Root (root_is_own up n (suc k) p r x e)
+      at : Dec (up p ≡ p) → root_from up n (left - 1) (up p) ≡ Some r → root_from up n left p ≡ Some r
+      at (yes e) _ = at_root up n left p x.0 e ∙ ap Some (root_is_own up n (suc k) p r x e)
       at (no d) next = to_parent up n left p x.0 d (omega arith) ∙ next
 
   -- the walk finds r exactly if the parents lead to r
-  pub found_exactly : (p r : ℕ) → (root_from up n n p ≡ Root r) ↔ Leads up n p r
+  pub found_exactly : (p r : ℕ) → (root_from up n n p ≡ Some r) ↔ Leads up n p r
   found_exactly p r = (found_leads n p r, found)
     where
-      found : Leads up n p r → root_from up n n p ≡ Root r
+      found : Leads up n p r → root_from up n n p ≡ Some r
       found x =
           let d = exact_of up n x.steps p r x.way in
           leads_found d.0 n p r (exact_leads up n d.0 p r d.2) (le_of_lt (exact_below up n d.0 p r d.2))
@@ -58,8 +57,8 @@ module _ (up : ℕ → ℕ) (n : ℕ) where
   pub none_exactly : (p : ℕ) → (root_from up n n p ≡ None) ↔ ((r : ℕ) → Leads up n p r → ⊥)
   none_exactly p = (λ e r x. none_is_no_root (sym e ∙ (found_exactly p r).1 x), λ never. at (root_from up n n p) refl never)
     where
-      at : (c : Climb) → root_from up n n p ≡ c → ((r : ℕ) → Leads up n p r → ⊥) → root_from up n n p ≡ None
-      at (Root r) e never = absurd (never r ((found_exactly p r).0 e))
+      at : (c : Option ℕ) → root_from up n n p ≡ c → ((r : ℕ) → Leads up n p r → ⊥) → root_from up n n p ≡ None
+      at (Some r) e never = absurd (never r ((found_exactly p r).0 e))
       at None e never = e
 
   -- ---- the root that is found is where as many steps as there are nodes lead

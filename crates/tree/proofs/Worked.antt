@@ -8,7 +8,7 @@ use Rattle.laws.specs.Below.{first_of, list_below}
 use Rattle.network.specs.declared.Network.{Network}
 use Rattle.links.specs.Links.{pair_is, joins, link_between, has_link}
 use Rattle.links.proofs.Worked.{network}
-use Rattle.tree.specs.Climb.{root_from, lost, depth_from, depth_of}
+use Rattle.tree.specs.Climb.{root_from, depth_from, depth_of}
 use Rattle.tree.specs.Checks.{untied, first_untied, first_lost}
 
 -- "Two linked nodes, each the other's parent: 7, place 0"
@@ -20,7 +20,7 @@ unfolding first_untied untied first_of if_b if_lt if_eq has_link link_between jo
 pair_is_tied = refl
 
 pair_is_lost : first_lost pair ≡ 0
-unfolding first_lost lost root_from first_of if_b if_lt if_eq
+unfolding first_lost root_from first_of if_b if_lt if_eq
 pair_is_lost = refl
 
 -- a root needs no link; node 1 has none to its parent, node 2's parent is no node
@@ -34,16 +34,16 @@ no_such_parent = refl
 
 -- node 1 only leads into the ring of 2 and 3
 into_a_ring : first_lost (network (0 ∷ 2 ∷ 3 ∷ 2 ∷ []) [] [] []) ≡ 1
-unfolding first_lost lost root_from first_of if_b if_lt if_eq
+unfolding first_lost root_from first_of if_b if_lt if_eq
 into_a_ring = refl
 
 -- "A chain of 64 nodes is accepted", with the root at either end
 downward : first_lost (network (list_below (λ p. p - 1) 64) [] [] []) ≡ 64
-unfolding first_lost lost root_from first_of if_b if_lt if_eq list_below
+unfolding first_lost root_from first_of if_b if_lt if_eq list_below
 downward = refl
 
 upward : first_lost (network (list_below (λ p. min (p + 1) 63) 64) [] [] []) ≡ 64
-unfolding first_lost lost root_from first_of if_b if_lt if_eq list_below
+unfolding first_lost root_from first_of if_b if_lt if_eq list_below
 upward = refl
 
 -- the far end of such a chain lies 63 below the root

@@ -1,9 +1,7 @@
 -- Following parents. `up` gives each node its parent; a root is its own parent, so a walk stays there. n is the node count.
 -- Assumes nothing.
-use Rattle.std.specs.Prelude.{ℕ, zero, suc, ◌<◌, ◌≡◌, Bool, true, false, List, get_or}
+use Rattle.std.specs.Prelude.{ℕ, zero, suc, ◌<◌, ◌≡◌, Bool, true, false, Option, Some, None, List, get_or}
 use Rattle.laws.specs.Choice.{if_lt, if_eq}
-use Rattle.tree.specs.declared.Climb.{Climb}
-use Rattle.tree.specs.declared.Climb.TheVariants.{Root, None}
 
 -- a node's parent, by the list of parents
 abbrev pub parent_in : List ℕ → ℕ → ℕ
@@ -20,9 +18,9 @@ root_of up n p = climb up n p
 
 -- "recursion up the parents with steps left falling from the node count, answering the root or none". The test for the root stands before
 -- the test for no steps left; a number that is no node leads nowhere
-unfoldable pub root_from : (ℕ → ℕ) → ℕ → ℕ → ℕ → Climb
-root_from up n zero p = if_lt p n (if_eq (up p) p (Root p) None) None
-root_from up n (suc left) p = if_lt p n (if_eq (up p) p (Root p) (root_from up n left (up p))) None
+unfoldable pub root_from : (ℕ → ℕ) → ℕ → ℕ → ℕ → Option ℕ
+root_from up n zero p = if_lt p n (if_eq (up p) p (Some p) None) None
+root_from up n (suc left) p = if_lt p n (if_eq (up p) p (Some p) (root_from up n left (up p))) None
 
 -- depth below the root: how many steps there are from p to its root
 unfoldable pub depth_from : (ℕ → ℕ) → ℕ → ℕ → ℕ
@@ -33,12 +31,12 @@ unfoldable pub depth_of : (ℕ → ℕ) → ℕ → ℕ → ℕ
 depth_of up n p = depth_from up n p
 
 -- what a walk comes to, in document 01's numbers: the root's number, or 64, which is no node's; and whether 7 applies
-abbrev pub root_number : Climb → ℕ
-root_number (Root r) = r
+abbrev pub root_number : Option ℕ → ℕ
+root_number (Some r) = r
 root_number None = 64
 
-abbrev pub lost : Climb → Bool
-lost (Root r) = false
+abbrev pub lost : Option ℕ → Bool
+lost (Some r) = false
 lost None = true
 
 -- ---- the same as propositions

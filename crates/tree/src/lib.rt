@@ -1,142 +1,54 @@
 // The tree of parents: checks 6 and 7 of a plan, and the root that a node's parents lead to.
 #![tactic(auto)]
 
-ghost use Rattle.std.specs.Prelude.{◌≡◌, ◌≤◌, min};
-ghost use Rattle.laws.specs.Below.{first_of};
-ghost use Rattle.tree.specs.Climb.{parent_in, root_from, root_number, lost};
+ghost use Rattle.std.specs.Prelude.{◌≡◌, length, min};
+ghost use Rattle.links.specs.Breach.{place_in};
+ghost use Rattle.links.specs.Links.{nodes_of, links_of};
+ghost use Rattle.tree.specs.Climb.{parent_in, root_from};
 ghost use Rattle.tree.specs.Checks.{untied, first_untied, first_lost};
 
 use links::has_link;
-use network::{Network, at_most};
-
-// What following the parents comes to: a root, or none within the steps that were left.
-#[derive(Clone, Copy)]
-pub enum Climb {
-    Root(u8),
-    None,
-}
+use network::Network;
 
 // "recursion up the parents with steps left falling from the node count, answering the root or none" (document 01). The test for the
 // root stands before the test for no steps left.
-fn follow(parents: &[u8; 64], nodes: usize, p: u8, left: usize) -> Climb
-    requires { nodes ≤ 64 }
-    ensures { result ≡ root_from (parent_in parents.now) nodes left p }
+fn follow(parents: &[u8], p: u8, left: usize) -> Option<u8>
+    ensures { result ≡ root_from (parent_in parents.now) (length parents.now) left p }
 {
-    let at = p as usize;
-    if nodes <= at {
-        return Climb::None;
-    }
-    let parent = parents[at];
+    let parent = *parents.get(p as usize)?;
     if parent == p {
-        return Climb::Root(p);
+        return Some(p);
     }
-    if left == 0 {
-        return Climb::None;
-    }
-    follow(parents, nodes, parent, left - 1)
+    follow(parents, parent, left.checked_sub(1)?)
 }
 
-// The root that the parents of p lead to. The list may claim any number of nodes, of which 64 are there to read.
-pub fn root_in(parents: &[u8; 64], nodes: usize, p: u8) -> Climb
+// The root that the parents of p lead to. The list may claim any number of nodes, of which 64 are there to read; a list and its count, since
+// `root_table` has parents that stand in no network.
+pub fn root_in(parents: &[u8; 64], nodes: usize, p: u8) -> Option<u8>
     ensures { result ≡ root_from (parent_in parents.now) (min nodes 64) (min nodes 64) p }
 {
-    let n = at_most(nodes, 64);
-    follow(parents, n, p, n)
+    let used = &parents[..nodes.min(64)];
+    follow(used, p, used.len())
 }
 
-// The number of the root that was found, and 64, which is no node's number, where none was.
-pub fn root_number(found: Climb) -> u8
-    ensures { result ≡ root_number found }
+// 7: the lowest node whose parents never reach a root.
+pub fn first_lost(net: Network) -> Option<usize>
+    ensures { result ≡ place_in (nodes_of net) (first_lost net) }
 {
-    match found {
-        Climb::Root(r) => r,
-        Climb::None => 64,
-    }
-}
-
-fn is_lost(found: Climb) -> bool
-    ensures { result ≡ lost found }
-{
-    match found {
-        Climb::Root(_) => false,
-        Climb::None => true,
-    }
-}
-
-fn lowest_lost(parents: &[u8; 64], nodes: usize) -> usize
-    requires { nodes ≤ 64 }
-    ensures { result ≡ first_of (λ p. lost (root_from (parent_in parents.now) nodes nodes p)) nodes }
-{
-    let mut p: usize = 0;
-    while p < nodes {
-        if is_lost(follow(parents, nodes, p as u8, nodes)) {
-            return p;
-        }
-        p += 1;
-    }
-    nodes
-}
-
-// 7: the lowest node whose parents never reach a root, and the node count where there is none.
-pub fn first_lost(net: Network) -> usize
-    ensures { result ≡ first_lost net }
-{
-    let nodes = at_most(net.nodes, 64);
-    let parents = net.parents;
-    lowest_lost(&parents, nodes)
+    (0..net.nodes.min(64)).find(|&p| root_in(&net.parents, net.nodes, p as u8).is_none())
 }
 
 // The node p is no root, and its parent is no node or has no link to it.
-fn is_untied(
-    lowers: &[u8; 128],
-    uppers: &[u8; 128],
-    links: usize,
-    nodes: usize,
-    p: u8,
-    parent: u8,
-) -> bool
-    ensures { result ≡ untied lowers.now uppers.now (min links 128) nodes p parent }
+#[tactic(auto, using(laws::proofs::Choice::picks), unfolding(crate::specs::Checks::untied))]
+fn is_untied(net: &Network, p: u8, parent: u8) -> bool
+    ensures { result ≡ untied net.now.lowers net.now.uppers (links_of net.now) (nodes_of net.now) p parent }
 {
-    if parent == p {
-        return false;
-    }
-    if nodes <= parent as usize {
-        return true;
-    }
-    if has_link(lowers, uppers, links, p, parent) {
-        return false;
-    }
-    true
+    parent != p && (net.nodes.min(64) <= parent as usize || !has_link(net, p, parent))
 }
 
-fn lowest_untied(
-    parents: &[u8; 64],
-    lowers: &[u8; 128],
-    uppers: &[u8; 128],
-    links: usize,
-    nodes: usize,
-) -> usize
-    requires { nodes ≤ 64 }
-    ensures { result ≡ first_of (λ p. untied lowers.now uppers.now (min links 128) nodes p (parent_in parents.now p)) nodes }
+// 6: the lowest node that is no root and whose parent is not below the node count or has no link to it.
+pub fn first_untied(net: Network) -> Option<usize>
+    ensures { result ≡ place_in (nodes_of net) (first_untied net) }
 {
-    let mut p: usize = 0;
-    while p < nodes {
-        if is_untied(lowers, uppers, links, nodes, p as u8, parents[p]) {
-            return p;
-        }
-        p += 1;
-    }
-    nodes
-}
-
-// 6: the lowest node that is no root and whose parent is not below the node count or has no link to it, and the node count where there
-// is none.
-pub fn first_untied(net: Network) -> usize
-    ensures { result ≡ first_untied net }
-{
-    let nodes = at_most(net.nodes, 64);
-    let parents = net.parents;
-    let lowers = net.lowers;
-    let uppers = net.uppers;
-    lowest_untied(&parents, &lowers, &uppers, net.links, nodes)
+    (0..net.nodes.min(64)).find(|&p| is_untied(&net, p as u8, net.parents[p]))
 }

@@ -1,8 +1,9 @@
--- `first_not_one`: over the network's own lists as far as they are there to be read, and the table of their roots.
+-- `first_not_one`: the first of the network's own links that passes the test.
+use Rattle.std.proofs.Common.{rules}
+use Rattle.laws.proofs.Chains.{found_by_find}
 use Rattle.clusters.specs.Clusters.{first_not_one}
 use Rattle.clusters.proofs.first_not_one.Goals as goal
 
 pub returns : goal.returns
 unfolding first_not_one
-returns c =
-    rw (← c.at_most-links.ensures, ← c.root_table-roots.ensures) c.lowest_not_one.ensures
+returns c = found_by_find _ _ c.min.ensures c.find.ensures.ran (λ x b q k. search rules)

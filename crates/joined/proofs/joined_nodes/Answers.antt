@@ -4,50 +4,54 @@ use native.Mathlib.Omega.{arith}
 use mathlib.Core.Path.{◌≡◌, sym, ◌∙◌, ap, subst}
 use Rattle.nodeset.specs.declared.NodeSet.{NodeSet}
 use Rattle.nodeset.proofs.Walks.{lowest_low, lowest_in}
+use Rattle.links.specs.Links.{nodes_of, links_of}
 use Rattle.joined.specs.declared.Walk.{Walk}
 use Rattle.joined.specs.Walk.{visited_of}
 use Rattle.joined.proofs.Walking.{WalkingIn, Idle, ToVisit, start_walking, turned_of, turn_walking, end_is_joined, ahead, turn_ahead}
 use Rattle.joined.proofs.joined_nodes.Goals as goal
-use Rattle.joined.proofs.joined_nodes.Goals.{After-visit-rest}
+use Rattle.joined.proofs.joined_nodes.Goals.{After-visit-walk}
 
 -- the next to visit is still to visit
-to-visit : (c : After-visit-rest) → ToVisit c.loop-w.w c.next-p.result
+to-visit : (c : After-visit-walk) → ToVisit c.loop-walk.walk c.next-p.result
 to-visit c =
-    lowest_in c.loop-w.w.todo.marks c.next-p.result c.next-p.ensures (search rules) (search rules)
+    lowest_in c.loop-walk.walk.todo.marks c.next-p.result c.next-p.ensures (search rules) (search rules)
 
 -- the walk after the turn
 turn :
-    (c : After-visit-rest)
-    → c.visit-rest.result ≡ turned_of c.args.lowers.now c.args.uppers.now c.args.links c.args.nodes c.next-p.result c.loop-w.w
+    (c : After-visit-walk)
+    → c.visit-walk.result ≡ turned_of c.args.net.now.lowers c.args.net.now.uppers (links_of c.args.net.now) (nodes_of c.args.net.now) c.next-p.result c.loop-walk.walk
 turn c =
-    c.visit-rest.ensures
-    ∙ ap (visited_of c.args.lowers.now c.args.uppers.now c.args.links c.args.nodes c.next-p.result) c.taken.ensures
+    let net = c.args.net.now in
+    c.visit-walk.ensures ∙ ap (visited_of net.lowers net.uppers (links_of net) (nodes_of net) c.next-p.result) c.taken.ensures
 
-pub loop-w-init : goal.loop-w-init
-loop-w-init c =
-    let args = c.args in
-    subst (λ (s : NodeSet). WalkingIn args.lowers.now args.uppers.now args.links args.nodes Idle (record { reached = s; todo = s }))
+pub loop-walk-init : goal.loop-walk-init
+loop-walk-init c =
+    let net = c.args.net.now in
+    subst (λ (s : NodeSet). WalkingIn net.lowers net.uppers (links_of net) (nodes_of net) Idle (record { reached = s; todo = s }))
     (ap (λ m. record { marks = m }) (sym c.insert-first.ensures))
-    (start_walking args.lowers.now args.uppers.now args.links args.nodes (search rules))
+    (start_walking net.lowers net.uppers (links_of net) (nodes_of net) (omega arith))
 
 pub overflow_cast-p : goal.overflow_cast-p
-overflow_cast-p c = omega (arith, lowest_low c.loop-w.w.todo.marks c.next-p.result c.next-p.ensures (search rules) (search rules))
+overflow_cast-p c =
+    omega (arith, lowest_low c.loop-walk.walk.todo.marks c.next-p.result c.next-p.ensures (search rules) (search rules))
 
-pub loop-w-smaller : goal.loop-w-smaller
-loop-w-smaller c =
-    let args = c.args in
-    let w = c.loop-w.w in
-    subst (λ (v : Walk). ahead v < ahead w) (sym (turn (goal.at.loop-w-smaller c).After-visit-rest)) (turn_ahead args.lowers.now args.uppers.now args.links args.nodes (search rules) _ w (to-visit (goal.at.loop-w-smaller c).After-visit-rest))
+pub loop-walk-smaller : goal.loop-walk-smaller
+loop-walk-smaller c =
+    let net = c.args.net.now in
+    let walk = c.loop-walk.walk in
+    let t = (goal.at.loop-walk-smaller c).After-visit-walk in
+    subst (λ (w : Walk). ahead w < ahead walk) (sym (turn t)) (turn_ahead net.lowers net.uppers (links_of net) (nodes_of net) (omega arith) _ walk (to-visit t))
 
-pub loop-w-preserved : goal.loop-w-preserved
-loop-w-preserved c =
-    let args = c.args in
-    let at = c.loop-w in
-    subst (WalkingIn args.lowers.now args.uppers.now args.links args.nodes Idle) (sym (turn (goal.at.loop-w-preserved c).After-visit-rest))
-    (turn_walking args.lowers.now args.uppers.now args.links args.nodes (search rules) _ at.w at.invariant (to-visit (goal.at.loop-w-preserved c).After-visit-rest))
+pub loop-walk-preserved : goal.loop-walk-preserved
+loop-walk-preserved c =
+    let net = c.args.net.now in
+    let at = c.loop-walk in
+    let t = (goal.at.loop-walk-preserved c).After-visit-walk in
+    subst (WalkingIn net.lowers net.uppers (links_of net) (nodes_of net) Idle) (sym (turn t))
+    (turn_walking net.lowers net.uppers (links_of net) (nodes_of net) (omega arith) _ at.walk at.invariant (to-visit t))
 
 pub returns : goal.returns
 returns c =
-    let args = c.args in
-    let at = c.loop-w in
-    end_is_joined args.lowers.now args.uppers.now args.links args.nodes (search rules) at.w (search rules) (search rules) at.invariant
+    let net = c.args.net.now in
+    let at = c.loop-walk in
+    end_is_joined net.lowers net.uppers (links_of net) (nodes_of net) (omega arith) at.walk (search rules) (search rules) at.invariant
