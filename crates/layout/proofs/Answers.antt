@@ -22,7 +22,7 @@ use Rattle.joined.specs.Joined.{first_unjoined, JoinedIn}
 use Rattle.joined.proofs.Checks.{unjoined_is_breach}
 use Rattle.plan.specs.Numbers.{unjoined}
 use Rattle.plan.specs.Accepted.{plan_network, FirstBroken}
-use Rattle.layout.specs.declared.Laid.{Laid}
+use Rattle.layout.specs.Laid.{Laid}
 use Rattle.layout.specs.Answers.{Holds, AllJoined, LayoutAnswer, by_record, by_10, by_22, by_23, laid_out_lem}
 use Rattle.layout.specs.Layout.{laid, layout_of}
 use Rattle.layout.specs.Numbers.{too_deep, no_room}

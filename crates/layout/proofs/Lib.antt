@@ -7,6 +7,7 @@ pub mod Fields
 pub mod Flags
 pub mod KeepsRecords
 pub mod KeepsWhole
+pub mod Laid
 pub mod LaidPlan
 pub mod One
 pub mod Places

@@ -3,8 +3,12 @@
 use Prim.Native.Nat.{ℕ, ◌+◌, ◌*◌, ◌<◌, ◌≤◌}
 use native.Mathlib.Omega.{arith}
 use mathlib.Core.Path.{◌≡◌, sym, ◌∙◌, ap}
-use mathlib.Core.List.{List}
-use lib.ListN.{length}
+use mathlib.Core.List.{List, ◌++◌}
+use lib.ListN.{length, get_or, set, take, drop}
+use Rattle.std.proofs.Common.{length-take-le}
+use lib.Seq.{get_or-take}
+use Rattle.laws.specs.Below.{fold_below}
+use Rattle.laws.proofs.Below.{fold_same}
 use Rattle.laws.proofs.Choice.{if_lt_yes, if_lt_no, if_eq_yes, if_eq_no}
 use Rattle.records.specs.Numbers.{accepted}
 use Rattle.records.specs.Reader.{lists_of}
@@ -13,9 +17,10 @@ use Rattle.links.specs.Links.{nodes_of, links_of}
 use Rattle.clusters.specs.Clusters.{roots_of}
 use Rattle.joined.specs.Joined.{first_unjoined}
 use Rattle.plan.specs.Numbers.{unjoined}
-use Rattle.layout.specs.declared.Laid.{Laid}
+use Rattle.layout.specs.Laid.{Laid}
 use Rattle.layout.specs.Numbers.{too_deep, no_room}
 use Rattle.layout.specs.Layout.{laid, wires_of, layout_of, laid_parents, first_flags, copied, with_fields, with_parents, with_flags, laid_over, laid_in}
+use Rattle.layout.proofs.Bytes.{copied_is}
 
 module _ (s : List ℕ) (depth : ℕ) (out : List ℕ) where
   -- the answer is this, and the buffer is left as it came
@@ -61,10 +66,23 @@ module _ (s : List ℕ) (depth : ℕ) (out : List ℕ) where
 
 -- ---- the steps of writing, put together
 
+-- the first of the fields, as a slice of them
+fields_front : (fields : List ℕ) (count at width : ℕ) (out : List ℕ) → count ≤ length fields → with_fields (take count fields) (length (take count fields)) at width out ≡ with_fields fields count at width out
+unfolding with_fields
+fields_front fields count at width out h =
+    ap (fold_below (λ k xs. set xs (at + width * k) (get_or (take count fields) k 0)) out) (length-take-le count fields h)
+    ∙ fold_same (λ k xs. set xs (at + width * k) (get_or (take count fields) k 0)) (λ k xs. set xs (at + width * k) (get_or fields k 0)) out count (λ k l xs. ap (set xs (at + width * k)) (get_or-take count fields k 0 l))
+
 pub steps_lay :
     (s out : List ℕ) (n depth : ℕ) (net : Network) {parents roots flags copy with both : List ℕ} {nodes links : ℕ} → nodes ≡ nodes_of net → links ≡ links_of net
-    → parents ≡ laid_parents net depth → roots ≡ roots_of (laid_parents net depth) (nodes_of net) → flags ≡ first_flags roots net.lowers net.uppers links
-    → copy ≡ copied s n out → with ≡ with_fields parents nodes 5 5 copy → both ≡ with_fields flags links (3 + 5 * nodes + 3) 4 with
+    → nodes ≤ length parents → links ≤ length flags → n ≤ length s → n ≤ length out
+    → parents ≡ laid_parents net depth → roots ≡ roots_of (laid_parents net depth) (nodes_of net) → flags ≡ first_flags roots net.lowers net.uppers (links_of net)
+    → copy ≡ take n s → with ≡ with_fields (take nodes parents) (length (take nodes parents)) 5 5 (copy ++ drop n out)
+    → both ≡ with_fields (take links flags) (length (take links flags)) (3 + 5 * nodes + 3) 4 with
     → both ≡ laid_over s n net depth out
 unfolding laid_over with_parents with_flags
-steps_lay s out n depth net a b c d e f g h = cc
+steps_lay s out n depth net {parents} {roots} {flags} {copy} {with} {both} {nodes} {links} a b i j k l c d e f g h =
+    let copied_out : copy ++ drop n out ≡ copied s n out = ap (λ x. x ++ drop n out) f ∙ sym (copied_is s n out k l) in
+    let all_parents = fields_front parents nodes 5 5 (copy ++ drop n out) i in
+    let all_flags = fields_front flags links (3 + 5 * nodes + 3) 4 with j in
+    cc

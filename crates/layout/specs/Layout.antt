@@ -13,8 +13,8 @@ use Rattle.clusters.specs.Clusters.{roots_of, cluster_at}
 use Rattle.joined.specs.Joined.{first_unjoined}
 use Rattle.plan.specs.Numbers.{unjoined}
 use Rattle.claims.specs.Claiming.{parents_of}
-use Rattle.layout.specs.declared.Laid.{Laid}
 use Rattle.layout.specs.FirstLinks.{first_flag}
+use Rattle.layout.specs.Laid.{Laid}
 use Rattle.layout.specs.Numbers.{too_deep, no_room}
 
 -- ---- the answer

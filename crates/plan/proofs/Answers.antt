@@ -24,11 +24,11 @@ use Rattle.plan.proofs.Walks.{checks_cases, kept_is_accepted, broken_is_refused,
 
 -- ---- the records' answer decides what is looked at
 
-listed_is_checked : (s : List ℕ) (n : ℕ) (net : Network) → lists_of s ≡ accepted_with n net → plan_of s ≡ checks_of (with_sets net) n
+pub listed_is_checked : (s : List ℕ) (n : ℕ) (net : Network) → lists_of s ≡ accepted_with n net → plan_of s ≡ checks_of (with_sets net) n
 unfolding plan_of
 listed_is_checked s n net e = rw e (if_eq_yes accepted accepted _ _ refl)
 
-refused_stays : (s : List ℕ) (k w : ℕ) → lists_of s ≡ refused_with k w → (k ≡ accepted → ⊥) → plan_of s ≡ refused_with k w
+pub refused_stays : (s : List ℕ) (k w : ℕ) → lists_of s ≡ refused_with k w → (k ≡ accepted → ⊥) → plan_of s ≡ refused_with k w
 unfolding plan_of
 refused_stays s k w e d = rw e (if_eq_no k accepted _ _ d)
 

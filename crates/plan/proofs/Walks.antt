@@ -1,17 +1,22 @@
 -- The five walks one after the other. Each answers the first breach of its rule, so the walks together answer the first rule that is broken and
 -- where, or that all are kept; and these are the only answers.
 -- Assumes nothing.
-use Prim.Native.Nat.{ℕ}
+use Prim.Native.Nat.{ℕ, ◌<◌, ◌≤◌}
 use native.Mathlib.Omega.{arith}
+use native.Mathlib.Decide.{dec_lt}
 use mathlib.Core.Path.{◌≡◌, refl, sym, ◌∙◌, ap}
+use Rattle.std.specs.Prelude.{Option, Result, Ok, Err, ⊤}
 use Rattle.laws.proofs.Choice.{lt_elim}
+use Rattle.answers.specs.declared.Refusal.{Refusal}
+use Rattle.answers.specs.declared.Refused.{Refused}
+use Rattle.answers.specs.Numbers.{number_of, none_at}
 use Rattle.network.specs.declared.Network.{Network}
-use Rattle.records.specs.declared.Planned.{Planned}
+use Rattle.records.specs.Planned.{Planned, planned_of}
 use Rattle.records.specs.Numbers.{accepted}
 use Rattle.records.specs.Reader.{refused_with, accepted_with}
-use Rattle.links.specs.Breach.{Breach}
+use Rattle.links.specs.Breach.{Breach, place_in}
 use Rattle.links.specs.Links.{nodes_of, links_of}
-use Rattle.links.proofs.Breach.{breach_unique}
+use Rattle.links.proofs.Breach.{breach_unique, place_yes, place_no}
 use Rattle.tree.specs.Checks.{Tied, EndsAtRoot, first_lost}
 use Rattle.tree.proofs.Checks.{untied_is_breach, lost_is_breach}
 use Rattle.clusters.specs.Clusters.{JoinsTwo, PairHasOne, first_inside, first_not_one}
@@ -41,6 +46,53 @@ module _ (Rule : ℕ → Type 0) (n first : ℕ) (B : Breach Rule n first) (numb
     where
       found : Breach Rule n w
       found = record { within = omega (arith, F.below); broken = λ _. F.broken; kept_before = F.kept_before }
+
+-- ---- one walk, as the code hands it on
+
+module _ (first n : ℕ) (refusal : Refusal) (f : Option ℕ) (r : Result ⊤ Refused) (walk : f ≡ place_in n first) (found : r ≡ none_at f refusal) where
+  -- there is a first place, and it is the one refused; or there is none
+  at_first : first < n → r ≡ Err (record { refusal = refusal; place = first })
+  at_first l = found ∙ ap (λ o. none_at o refusal) (walk ∙ place_yes n first l)
+
+  nowhere : n ≤ first → r ≡ Ok tt
+  nowhere l = found ∙ ap (λ o. none_at o refusal) (walk ∙ place_no n first l)
+
+  pub one_found : (e : Refused) → r ≡ Err e → (first < n) × (e ≡ record { refusal = refusal; place = first })
+  one_found e q = at (dec_lt first n)
+    where
+      at : Dec (first < n) → (first < n) × (e ≡ record { refusal = refusal; place = first })
+      at (yes l) =
+          let p = at_first l in
+          let d : e ≡ record { refusal = refusal; place = first } = cc in
+          (l, d)
+      at (no l) =
+          let p = nowhere (omega arith) in
+          absurd (cc)
+
+  pub none_found : (u : ⊤) → r ≡ Ok u → n ≤ first
+  none_found u q = at (dec_lt first n)
+    where
+      at : Dec (first < n) → n ≤ first
+      at (yes l) =
+          let p = at_first l in
+          absurd (cc)
+      at (no l) = omega arith
+
+  module _ (rest : Planned) where
+    none_cases : (P : Planned → Type 0) → (r ≡ Err (record { refusal = refusal; place = first }) → P (refused_with (number_of refusal) first)) → (r ≡ Ok tt → P rest) → P (unless_below first n (number_of refusal) rest)
+    none_cases P b k =
+        lt_elim P first n (refused_with (number_of refusal) first) rest (λ l. b (at_first l)) (λ l. k (nowhere l))
+
+    -- refused, the walk's answer is what all of them come to
+    pub walk_stops : (e : Refused) → r ≡ Err e → planned_of (Err e) ≡ unless_below first n (number_of refusal) rest
+    walk_stops e q =
+        none_cases (λ x. planned_of (Err e) ≡ x)
+        (λ p. let d : e ≡ record { refusal = refusal; place = first } = cc in ap (λ x. refused_with (number_of x.refusal) x.place) d)
+        (λ p. cc)
+
+    -- else what is left to answer is
+    pub walk_passes : (u : ⊤) → r ≡ Ok u → rest ≡ unless_below first n (number_of refusal) rest
+    walk_passes u q = none_cases (λ x. rest ≡ x) (λ p. cc) (λ p. refl)
 
 -- ---- all five
 

@@ -1,11 +1,13 @@
 -- The plan reader's answer for any bytes: the records, and "then over the whole plan, in this order: 6, 7, 8, 9, 10". `Accepted` says of every
 -- answer when it is given.
 -- Assumes nothing.
-use Rattle.std.specs.Prelude.{ℕ, List}
+use Rattle.std.specs.Prelude.{ℕ, List, Option, Some, None, Result, Ok, Err, ⊤}
 use Rattle.laws.specs.Choice.{if_lt, if_eq}
+use Rattle.answers.specs.declared.Refusal.{Refusal}
+use Rattle.answers.specs.declared.Refused.{Refused}
 use Rattle.network.specs.declared.Network.{Network}
 use Rattle.network.specs.Sets.{with_sets}
-use Rattle.records.specs.declared.Planned.{Planned}
+use Rattle.records.specs.Planned.{Planned}
 use Rattle.records.specs.Numbers.{accepted}
 use Rattle.records.specs.Reader.{refused_with, accepted_with, lists_of}
 use Rattle.links.specs.Links.{nodes_of, links_of}

@@ -15,8 +15,8 @@ use Rattle.laws.proofs.Choice.{lt_elim, if_lt_yes, if_lt_no}
 use Rattle.records.specs.declared.Record.{Record}
 use Rattle.records.specs.declared.Record.TheVariants.{End, Rounds, Node, Link}
 use Rattle.records.specs.declared.Cursor.{Cursor}
-use Rattle.records.specs.declared.Read.{Read}
-use Rattle.records.specs.declared.Read.TheVariants.{Nothing, Unknown, Short, Whole}
+use Rattle.records.specs.Record.{Read}
+use Rattle.records.specs.Record.{Nothing, Unknown, Short, Whole}
 use Rattle.records.specs.Record.{body_length, pair_of, record_at, read_at}
 use Rattle.records.specs.Plan.{two_bytes, rounds_bytes, node_bytes, link_bytes}
 use Rattle.records.specs.Keeps.{record_bytes}
@@ -43,6 +43,19 @@ read_cases s at P n u c w =
 
     long : Read
     long = if_lt (length s - (at + 1)) (body_length (get_or s at 0)) Short (Whole (record_at s (get_or s at 0) (at + 1)) past)
+
+-- what stands at an offset, where it is no whole record
+pub nothing_there : (s : List ℕ) (at : ℕ) → length s ≤ at → read_at s at ≡ Nothing
+nothing_there s at l =
+    read_cases s at (λ x. x ≡ Nothing) (λ _. refl) (λ i _. absurd (omega arith)) (λ i _ _. absurd (omega arith)) (λ _ h. absurd (omega arith))
+
+pub no_kind_there : (s : List ℕ) (at : ℕ) → at < length s → 3 < get_or s at 0 → read_at s at ≡ Unknown
+no_kind_there s at i h =
+    read_cases s at (λ x. x ≡ Unknown) (λ l. absurd (omega arith)) (λ _ _. refl) (λ _ k _. absurd (omega arith)) (λ k _. absurd (omega arith))
+
+pub cut_there : (s : List ℕ) (at : ℕ) → at < length s → get_or s at 0 ≤ 3 → length s < at + 1 + body_length (get_or s at 0) → read_at s at ≡ Short
+cut_there s at i k h =
+    read_cases s at (λ x. x ≡ Short) (λ l. absurd (omega arith)) (λ _ u. absurd (omega arith)) (λ _ _ _. refl) (λ _ l. absurd (omega arith))
 
 -- ---- numbers of two bytes
 
@@ -110,7 +123,7 @@ module _ (s : List ℕ) (at : ℕ) (bs : List ℕ) (e : take (length bs) (drop a
       ∙ sym (get_or-take (length bs) (drop at s) j 0 h)
       ∙ ap (λ l. get_or l j 0) e
 
-whole_at : (s : List ℕ) (at k : ℕ) → get_or s at 0 ≡ k → k ≤ 3 → at + 1 + body_length k ≤ length s → read_at s at ≡ Whole (record_at s k (at + 1)) (cursor_at (at + 1 + body_length k))
+pub whole_at : (s : List ℕ) (at k : ℕ) → get_or s at 0 ≡ k → k ≤ 3 → at + 1 + body_length k ≤ length s → read_at s at ≡ Whole (record_at s k (at + 1)) (cursor_at (at + 1 + body_length k))
 unfolding read_at
 whole_at s at k e l h =
     rw e (if_lt_yes at (length s) _ _ (omega arith) ∙ if_lt_no 3 k _ _ l ∙ if_lt_no (length s - (at + 1)) (body_length k) _ _ (omega arith))

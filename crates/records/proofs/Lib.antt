@@ -1,3 +1,4 @@
+pub mod Ahead
 pub mod Answers
 pub mod Begun
 pub mod Bodies
@@ -7,6 +8,7 @@ pub mod Kept
 pub mod Lists
 pub mod Networks
 pub mod Outcome
+pub mod Planned
 pub mod Rising
 pub mod Rules
 pub mod Through

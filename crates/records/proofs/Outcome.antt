@@ -14,7 +14,7 @@ use Rattle.laws.proofs.Choice.{eq_elim, true_not_false}
 use Rattle.network.specs.declared.Network.{Network}
 use Rattle.records.specs.declared.Record.{Record}
 use Rattle.records.specs.declared.Record.TheVariants.{End, Rounds, Node, Link}
-use Rattle.records.specs.declared.Read.TheVariants.{Whole}
+use Rattle.records.specs.Record.{Whole}
 use Rattle.records.specs.Numbers.{accepted, kind_unknown, cut_short, out_of_order}
 use Rattle.records.specs.Record.{body_length, record_at, read_at}
 use Rattle.records.specs.Rules.{rule_of}

@@ -5,19 +5,17 @@ use Prim.Native.Nat.{ℕ, ◌+◌, ◌<◌, ◌≤◌}
 use native.Mathlib.Omega.{arith}
 use mathlib.Core.Path.{◌≡◌, refl, sym, ◌∙◌, ap, ap₂, subst}
 use mathlib.Core.List.{List, [], ◌∷◌, ◌++◌, append_assoc}
-use lib.ListN.{length, get_or, take, drop, length-append, take-append-drop}
+use lib.ListN.{length, take, drop, length-append, take-append-drop}
 use lib.Seq.{length-take-le, drop-drop, take-append_seam, drop-append_seam}
 use Rattle.network.specs.declared.Network.{Network}
 use Rattle.records.specs.declared.Record.{Record}
 use Rattle.records.specs.declared.Record.TheVariants.{End, Rounds, Node, Link}
-use Rattle.records.specs.declared.Read.TheVariants.{Nothing, Unknown, Short}
 use Rattle.records.specs.Numbers.{accepted}
-use Rattle.records.specs.Record.{body_length, read_at}
 use Rattle.records.specs.Reader.{refused_with, accepted_with, lists_of}
 use Rattle.records.specs.Plan.{Plan, bytes_of, network_of, Rising}
 use Rattle.records.specs.Keeps.{record_bytes, no_plan, with, Keeps, EachKeeps, with_all, records_bytes, BreaksAt, bytes_end, unknown, short, whole, Accepted1to5, Refused1to5}
 use Rattle.records.proofs.Begun.{not_end_goes, records_of, plan_written, records_keep, records_add_up}
-use Rattle.records.proofs.Codec.{read_cases, written_is_read}
+use Rattle.records.proofs.Codec.{nothing_there, no_kind_there, cut_there, written_is_read}
 use Rattle.records.proofs.Keeping.{kept_gives_0, broken_gives_its_number, broken_is_no_0}
 use Rattle.records.proofs.Networks.{network_of_none, network_with}
 use Rattle.records.proofs.Rules.{kept_has_room}
@@ -69,19 +67,6 @@ read_before s rs w k h e =
 -- the first n bytes as a beginning of all of them
 first_bytes : (s : List ℕ) (n : ℕ) (bs : List ℕ) → take n s ≡ bs → s ≡ bs ++ drop n s
 first_bytes s n bs e = sym (take-append-drop n s) ∙ ap (λ l. l ++ drop n s) e
-
--- what stands at an offset, where it is no whole record
-nothing_there : (s : List ℕ) (at : ℕ) → length s ≤ at → read_at s at ≡ Nothing
-nothing_there s at l =
-    read_cases s at (λ x. x ≡ Nothing) (λ _. refl) (λ i _. absurd (omega arith)) (λ i _ _. absurd (omega arith)) (λ _ h. absurd (omega arith))
-
-no_kind_there : (s : List ℕ) (at : ℕ) → at < length s → 3 < get_or s at 0 → read_at s at ≡ Unknown
-no_kind_there s at i h =
-    read_cases s at (λ x. x ≡ Unknown) (λ l. absurd (omega arith)) (λ _ _. refl) (λ _ k _. absurd (omega arith)) (λ k _. absurd (omega arith))
-
-cut_there : (s : List ℕ) (at : ℕ) → at < length s → get_or s at 0 ≤ 3 → length s < at + 1 + body_length (get_or s at 0) → read_at s at ≡ Short
-cut_there s at i k h =
-    read_cases s at (λ x. x ≡ Short) (λ l. absurd (omega arith)) (λ _ u. absurd (omega arith)) (λ _ _ _. refl) (λ _ l. absurd (omega arith))
 
 pub refused_answer : (s : List ℕ) (k w : ℕ) → Refused1to5 s k w → lists_of s ≡ refused_with k w
 unfolding Holds

@@ -3,19 +3,24 @@
 -- Assumes nothing.
 use Prim.Native.Nat.{ℕ, zero, suc, pred, ◌+◌, ◌<◌, ◌≤◌}
 use native.Mathlib.Omega.{arith}
-use mathlib.Core.Path.{◌≡◌, refl, sym, ◌∙◌, ap, subst}
+use mathlib.Core.Path.{◌≡◌, refl, sym, ◌∙◌, ap, ap₂, subst}
 use mathlib.Core.Bool.{true, false}
 use mathlib.Core.List.{List}
 use lib.ListN.{length, get_or}
+use Rattle.std.specs.Prelude.{Result, Ok, Err, ⊤}
 use Rattle.laws.proofs.Choice.{if_eq_yes, if_eq_no, if_b_yes, if_b_no}
 use Rattle.network.specs.declared.Network.{Network}
 use Rattle.records.specs.declared.Record.{Record}
 use Rattle.records.specs.declared.Record.TheVariants.{End, Rounds, Node, Link}
-use Rattle.records.specs.declared.Read.{Read}
-use Rattle.records.specs.declared.Read.TheVariants.{Nothing, Unknown, Short, Whole}
+use Rattle.answers.specs.declared.Refusal.{Refusal}
+use Rattle.answers.specs.declared.Refusal.TheVariants.{KindUnknown, CutShort, OutOfOrder}
+use Rattle.answers.specs.declared.Refused.{Refused}
+use Rattle.answers.specs.Numbers.{number_of}
+use Rattle.answers.proofs.Named.{answer_of-injective}
 use Rattle.records.specs.declared.Cursor.{Cursor}
 use Rattle.records.specs.Numbers.{accepted, kind_unknown, cut_short, out_of_order}
-use Rattle.records.specs.Record.{body_length, read_at}
+use Rattle.records.specs.Planned.{planned_of}
+use Rattle.records.specs.Record.{Read, Nothing, Unknown, Short, Whole, body_length, read_at, found_at}
 use Rattle.records.specs.Rules.{rule_of}
 use Rattle.network.specs.Zeros.{zero_network}
 use Rattle.records.specs.Reader.{node_added, link_added, rounds_added, HasRoom, add_of, closes_of, refused_with, accepted_with, turn, lists_from, lists_of}
@@ -69,6 +74,26 @@ still_few net (Rounds v) l h = l
 still_few net (Node number parent start) l h = l
 still_few net (Link a b flag) l h = omega arith
 
+-- ---- what a cursor answers
+
+-- a whole record, from the cursor's answer
+pub whole_found : (s : List ℕ) (at : ℕ) (r : Record) (next : Cursor) → found_at s at (read_at s at) ≡ Ok (r, next) → read_at s at ≡ Whole r next
+whole_found s at r next = go (read_at s at)
+  where
+    go : (x : Read) → found_at s at x ≡ Ok (r, next) → x ≡ Whole r next
+    go Nothing e = cc
+    go Unknown e = cc
+    go Short e = cc
+    go (Whole r' next') e =
+        let p : ◌≡◌ {A = Record × Cursor} (r', next') (r, next) = cc in
+        ap₂ Whole (ap (λ x. x.0) p) (ap (λ x. x.1) p)
+
+-- no number of a refusal is 0
+pub refusal_is_no_0 : (e : Refusal) → number_of e ≡ accepted → ⊥
+refusal_is_no_0 e q =
+    let z : ◌≡◌ {A = Result ⊤ Refusal} (Err e) (Ok tt) = answer_of-injective (Err e) (Ok tt) q in
+    cc
+
 -- ---- the ways out of the loop
 
 module _ {s : List ℕ} {at : ℕ} {net : Network} (R : Reading s at net) where
@@ -83,6 +108,21 @@ module _ {s : List ℕ} {at : ℕ} {net : Network} (R : Reading s at net) where
   pub at_cut_body : read_at s at ≡ Short → refused_with cut_short at ≡ lists_of s
   unfolding turn
   at_cut_body e = one_turn Short R e
+
+  pub at_refused : (e : Refused) → found_at s at (read_at s at) ≡ Err e → planned_of (Err e) ≡ lists_of s
+  at_refused e = go (read_at s at) refl
+    where
+      go : (x : Read) → read_at s at ≡ x → found_at s at x ≡ Err e → planned_of (Err e) ≡ lists_of s
+      go Nothing q p =
+          let f : e ≡ record { refusal = OutOfOrder; place = length s } = cc in
+          ap (λ y. planned_of (Err y)) f ∙ at_the_end q
+      go Unknown q p =
+          let f : e ≡ record { refusal = KindUnknown; place = at } = cc in
+          ap (λ y. planned_of (Err y)) f ∙ at_no_kind q
+      go Short q p =
+          let f : e ≡ record { refusal = CutShort; place = at } = cc in
+          ap (λ y. planned_of (Err y)) f ∙ at_cut_body q
+      go (Whole r next) q p = cc
 
   module _ {r : Record} {next : Cursor} (e : read_at s at ≡ Whole r next) where
     pub at_fault : (rule_of net r ≡ accepted → ⊥) → refused_with (rule_of net r) at ≡ lists_of s

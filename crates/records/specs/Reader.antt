@@ -7,11 +7,9 @@ use Rattle.network.specs.declared.Network.{Network}
 use Rattle.network.specs.Zeros.{zero_network}
 use Rattle.records.specs.declared.Record.{Record}
 use Rattle.records.specs.declared.Record.TheVariants.{End, Rounds, Node, Link}
-use Rattle.records.specs.declared.Read.{Read}
-use Rattle.records.specs.declared.Read.TheVariants.{Nothing, Unknown, Short, Whole}
-use Rattle.records.specs.declared.Planned.{Planned}
 use Rattle.records.specs.Numbers.{accepted, kind_unknown, cut_short, out_of_order}
-use Rattle.records.specs.Record.{read_at}
+use Rattle.records.specs.Planned.{Planned}
+use Rattle.records.specs.Record.{Read, Nothing, Unknown, Short, Whole, read_at}
 use Rattle.records.specs.Rules.{rule_of}
 
 -- the network with one more record in its lists

@@ -1,28 +1,18 @@
 // A plan's bytes, record by record: a cursor that reads one record, rules 1 to 5, and the lists of the network that the records give.
 #![tactic(auto)]
 
-ghost use Rattle.std.specs.Prelude.{◌≡◌, ◌+◌, ◌<◌, ◌≤◌, length};
-ghost use Rattle.records.specs.Record.{body_length, pair_of, record_at, read_at};
+ghost use Rattle.std.specs.Prelude.{◌≡◌, ◌<◌, ◌≤◌};
+ghost use Rattle.answers.specs.Numbers.{answer_of};
+ghost use Rattle.records.specs.Planned.{planned_of};
+ghost use Rattle.records.specs.Record.{found_at, read_at};
 ghost use Rattle.records.specs.Rules.{rounds_rule, node_rule, link_rule, end_rule, follows_of, rule_of};
-ghost use Rattle.records.specs.Reader.{rounds_added, node_added, link_added, HasRoom, add_of, closes_of, answered, lists_of};
+ghost use Rattle.records.specs.Reader.{node_added, link_added, HasRoom, add_of, lists_of};
 
+use answers::{Refusal, Refused};
 use network::{Network, pair_rises, zeros};
 
-// The plan's numbers that one record decides.
-pub const ACCEPTED: u8 = 0;
-
-pub const KIND_UNKNOWN: u8 = 1;
-
-pub const CUT_SHORT: u8 = 2;
-
-pub const OUT_OF_ORDER: u8 = 3;
-
-pub const TOO_MANY: u8 = 4;
-
-pub const OUT_OF_RANGE: u8 = 5;
-
 // A record of a plan, by its kind: 0, 1, 2 and 3.
-#[derive(Clone, Copy)]
+#[derive(Clone, Copy, Debug, PartialEq, Eq)]
 pub enum Record {
     End,
     Rounds(u16),
@@ -30,305 +20,192 @@ pub enum Record {
     Link { a: u8, b: u8, flag: u8 },
 }
 
-// What stands at an offset of the bytes: nothing, where they end; a byte that is no plan's kind; a kind whose body runs past the end; or
-// a record, with the cursor past it.
-#[derive(Clone, Copy)]
-pub enum Read {
-    Nothing,
-    Unknown,
-    Short,
-    Whole(Record, Cursor),
-}
-
 #[derive(Clone, Copy)]
 pub struct Cursor {
     pub at: usize,
 }
 
-// What reading a plan comes to: 0, the bytes that the plan took and its network; or the number of a refusal, the place that document 01
-// gives it, and a network of zeros.
+// A plan that has been read: how many bytes it takes, and its network.
 #[derive(Clone, Copy)]
-pub struct Planned {
-    pub number: u8,
-    pub place: usize,
+pub struct Plan {
+    pub taken: usize,
     pub network: Network,
 }
 
-// "Two-byte numbers have the high byte first."
-fn pair(high: u8, low: u8) -> u16
-    ensures { result ≡ pair_of high low }
-{
-    (high as u16) * 256 + low as u16
-}
-
-// "a body whose length the kind fixes"
-fn body_length(kind: u8) -> usize
-    ensures { result ≡ body_length kind }
-{
-    match kind {
-        0 => 0,
-        1 => 2,
-        2 => 4,
-        _ => 3,
-    }
-}
-
-// The record of this kind whose body begins at an offset.
-fn record_at(bytes: &[u8], kind: u8, body: usize) -> Record
-    requires { body + body_length kind ≤ length bytes.now }
-    ensures { result ≡ record_at bytes.now kind body }
-{
-    if kind == 0 {
-        return Record::End;
-    }
-    if kind == 1 {
-        return Record::Rounds(pair(bytes[body], bytes[body + 1]));
-    }
-    if kind == 2 {
-        return Record::Node {
-            number: bytes[body],
-            parent: bytes[body + 1],
-            start: pair(bytes[body + 2], bytes[body + 3]),
-        };
-    }
-    Record::Link {
-        a: bytes[body],
-        b: bytes[body + 1],
-        flag: bytes[body + 2],
-    }
-}
-
 impl Cursor {
-    pub fn read(self, bytes: &[u8]) -> Read
-        ensures { result ≡ read_at bytes.now self.at }
+    // The record at the cursor, and the cursor past it. "Every record is one byte of kind, then a body whose length the kind fixes"; "Two-byte
+    // numbers have the high byte first".
+    pub fn read(self, bytes: &[u8]) -> Result<(Record, Cursor), Refused>
+        ensures { result ≡ found_at bytes.now self.at (read_at bytes.now self.at) }
     {
-        let at = self.at;
-        if at < bytes.len() {
-            let kind = bytes[at];
-            if 3 < kind {
-                return Read::Unknown;
+        let place = self.at;
+        let [kind, body @ ..] = &bytes[place.min(bytes.len())..] else {
+            return Err(Refused {
+                refusal: Refusal::OutOfOrder,
+                place: bytes.len(),
+            });
+        };
+        match (*kind, body) {
+            (0, _) => Ok((Record::End, Cursor { at: place + 1 })),
+            (1, &[high, low, ..]) => {
+                let rounds = u16::from_be_bytes([high, low]);
+                Ok((Record::Rounds(rounds), Cursor { at: place + 3 }))
             }
-            let body = at + 1;
-            let long = body_length(kind);
-            if bytes.len() - body < long {
-                return Read::Short;
+            (2, &[number, parent, high, low, ..]) => {
+                let start = u16::from_be_bytes([high, low]);
+                let node = Record::Node {
+                    number,
+                    parent,
+                    start,
+                };
+                Ok((node, Cursor { at: place + 5 }))
             }
-            return Read::Whole(record_at(bytes, kind, body), Cursor { at: body + long });
+            (3, &[a, b, flag, ..]) => Ok((Record::Link { a, b, flag }, Cursor { at: place + 4 })),
+            (0..=3, _) => Err(Refused {
+                refusal: Refusal::CutShort,
+                place,
+            }),
+            _ => Err(Refused {
+                refusal: Refusal::KindUnknown,
+                place,
+            }),
         }
-        Read::Nothing
     }
 }
 
 // The link (a, b) stands above the last one, if there is one: "compared as written before any range is looked at".
-fn follows(net: Network, a: u8, b: u8) -> bool
-    requires { net.links ≤ 128 }
-    ensures { result ≡ follows_of net a b }
+#[tactic(auto, using(laws::proofs::Choice::picks), unfolding(crate::specs::Rules::follows_of))]
+fn follows(net: &Network, a: u8, b: u8) -> bool
+    requires { net.now.links ≤ 128 }
+    ensures { result ≡ follows_of net.now a b }
 {
-    let links = net.links;
-    if links == 0 {
-        return true;
+    match net.links {
+        0 => true,
+        links => pair_rises(net.lowers[links - 1], net.uppers[links - 1], a, b),
     }
-    let last = links - 1;
-    pair_rises(net.lowers[last], net.uppers[last], a, b)
 }
 
-// Each return is the guard of `rounds_rule` that its tests lead to.
 #[tactic(auto, using(laws::proofs::Choice::picks), unfolding(crate::specs::Rules::rounds_rule))]
-fn rounds_rule(rounds: u16, v: u16) -> u8
-    ensures { result ≡ rounds_rule rounds v }
+fn rounds_rule(rounds: u16, v: u16) -> Result<(), Refusal>
+    ensures { answer_of result ≡ rounds_rule rounds v }
 {
     if 0 < rounds {
-        return OUT_OF_ORDER;
+        return Err(Refusal::OutOfOrder);
     }
-    if v == 0 {
-        return OUT_OF_RANGE;
+    if v == 0 || 10000 < v {
+        return Err(Refusal::OutOfRange);
     }
-    if 10000 < v {
-        return OUT_OF_RANGE;
-    }
-    ACCEPTED
+    Ok(())
 }
 
-fn node_rule(rounds: u16, nodes: usize, links: usize, number: u8) -> u8
-    ensures { result ≡ node_rule rounds nodes links number }
+#[tactic(auto, using(laws::proofs::Choice::picks), unfolding(crate::specs::Rules::node_rule))]
+fn node_rule(net: &Network, number: u8) -> Result<(), Refusal>
+    ensures { answer_of result ≡ node_rule net.now.rounds net.now.nodes net.now.links number }
 {
-    if rounds == 0 {
-        return OUT_OF_ORDER;
+    if net.rounds == 0 || 0 < net.links || number as usize != net.nodes {
+        return Err(Refusal::OutOfOrder);
     }
-    if 0 < links {
-        return OUT_OF_ORDER;
+    if 64 <= net.nodes {
+        return Err(Refusal::TooMany);
     }
-    if (number as usize) == nodes {
-        if nodes < 64 {
-            return ACCEPTED;
-        }
-        return TOO_MANY;
-    }
-    OUT_OF_ORDER
+    Ok(())
 }
 
-fn link_rule(nodes: usize, links: usize, follows: bool, a: u8, b: u8, flag: u8) -> u8
-    ensures { result ≡ link_rule nodes links follows a b flag }
+// The ends and the flag by themselves, as the definition has them.
+#[tactic(auto, using(laws::proofs::Choice::picks), unfolding(crate::specs::Rules::link_rule))]
+fn link_rule(net: &Network, follows: bool, a: u8, b: u8, flag: u8) -> Result<(), Refusal>
+    ensures { answer_of result ≡ link_rule net.now.nodes net.now.links follows a b flag }
 {
-    if nodes == 0 {
-        return OUT_OF_ORDER;
+    if net.nodes == 0 || !follows {
+        return Err(Refusal::OutOfOrder);
     }
-    if follows {
-        if links < 128 {
-            if a < b {
-                if (b as usize) < nodes {
-                    if flag < 2 {
-                        return ACCEPTED;
-                    }
-                    return OUT_OF_RANGE;
-                }
-                return OUT_OF_RANGE;
-            }
-            return OUT_OF_RANGE;
-        }
-        return TOO_MANY;
+    if 128 <= net.links {
+        return Err(Refusal::TooMany);
     }
-    OUT_OF_ORDER
+    if a < b && (b as usize) < net.nodes && flag < 2 {
+        Ok(())
+    } else {
+        Err(Refusal::OutOfRange)
+    }
 }
 
-fn end_rule(nodes: usize) -> u8
-    ensures { result ≡ end_rule nodes }
+#[tactic(auto, using(laws::proofs::Choice::picks), unfolding(crate::specs::Rules::end_rule))]
+fn end_rule(nodes: usize) -> Result<(), Refusal>
+    ensures { answer_of result ≡ end_rule nodes }
 {
-    if nodes == 0 {
-        return OUT_OF_ORDER;
+    match nodes {
+        0 => Err(Refusal::OutOfOrder),
+        _ => Ok(()),
     }
-    ACCEPTED
 }
 
-// The lowest of 3, 4 and 5 that a record breaks after the records of the network, and 0 where it keeps them.
-fn rule(net: Network, rec: Record) -> u8
-    requires { net.links ≤ 128 }
-    ensures { result ≡ rule_of net rec }
+// The lowest of 3, 4 and 5 that a record breaks after the records of the network.
+fn rule(net: &Network, rec: Record) -> Result<(), Refusal>
+    requires { net.now.links ≤ 128 }
+    ensures { answer_of result ≡ rule_of net.now rec }
 {
     match rec {
         Record::End => end_rule(net.nodes),
         Record::Rounds(v) => rounds_rule(net.rounds, v),
-        Record::Node {
-            number,
-            parent: _,
-            start: _,
-        } => node_rule(net.rounds, net.nodes, net.links, number),
-        Record::Link { a, b, flag } => link_rule(
-            net.nodes,
-            net.links,
-            follows(net, a, b),
-            a,
-            b,
-            flag,
-        ),
+        Record::Node { number, .. } => node_rule(net, number),
+        Record::Link { a, b, flag } => link_rule(net, follows(net, a, b), a, b, flag),
     }
 }
 
 #[tactic(auto, unfolding(crate::specs::Reader::node_added))]
-fn add_node(mut net: Network, parent: u8, start: u16) -> Network
-    requires { net.nodes < 64 }
-    ensures { result ≡ node_added net parent start }
+fn add_node(net: &mut Network, parent: u8, start: u16)
+    requires { net.old.nodes < 64 }
+    ensures { net.new ≡ node_added net.old parent start }
 {
     let n = net.nodes;
     net.parents[n] = parent;
     net.starts[n] = start;
-    net.nodes = n + 1;
-    net
+    net.nodes += 1;
 }
 
 #[tactic(auto, unfolding(crate::specs::Reader::link_added))]
-fn add_link(mut net: Network, a: u8, b: u8, flag: u8) -> Network
-    requires { net.links < 128 }
-    ensures { result ≡ link_added net a b flag }
+fn add_link(net: &mut Network, a: u8, b: u8, flag: u8)
+    requires { net.old.links < 128 }
+    ensures { net.new ≡ link_added net.old a b flag }
 {
     let l = net.links;
     net.lowers[l] = a;
     net.uppers[l] = b;
     net.flags[l] = flag;
-    net.links = l + 1;
-    net
+    net.links += 1;
 }
 
+// One more record in the network's lists.
 #[tactic(auto, unfolding(crate::specs::Reader::rounds_added))]
-fn add_rounds(mut net: Network, v: u16) -> Network
-    ensures { result ≡ rounds_added net v }
-{
-    net.rounds = v;
-    net
-}
-
-// The network with one more record in its lists.
-fn add(net: Network, rec: Record) -> Network
-    requires { HasRoom net rec }
-    ensures { result ≡ add_of net rec }
+fn add(net: &mut Network, rec: Record)
+    requires { HasRoom net.old rec }
+    ensures { net.new ≡ add_of net.old rec }
 {
     match rec {
-        Record::End => net,
-        Record::Rounds(v) => add_rounds(net, v),
-        Record::Node {
-            number: _,
-            parent,
-            start,
-        } => add_node(net, parent, start),
+        Record::End => {}
+        Record::Rounds(v) => net.rounds = v,
+        Record::Node { parent, start, .. } => add_node(net, parent, start),
         Record::Link { a, b, flag } => add_link(net, a, b, flag),
     }
 }
 
-fn closes(rec: Record) -> bool
-    ensures { result ≡ closes_of rec }
+// The records of a plan, from the first to kind 0 or to the first fault: 1 to 5. The sets of an accepted plan's network are still empty.
+pub fn read_lists(bytes: &[u8]) -> Result<Plan, Refused>
+    ensures { planned_of result ≡ lists_of bytes.now }
 {
-    match rec {
-        Record::End => true,
-        Record::Rounds(_) => false,
-        Record::Node {
-            number: _,
-            parent: _,
-            start: _,
-        } => false,
-        Record::Link {
-            a: _,
-            b: _,
-            flag: _,
-        } => false,
-    }
-}
-
-pub fn answer(number: u8, place: usize, network: Network) -> Planned
-    ensures { result ≡ answered number place network }
-{
-    Planned {
-        number,
-        place,
-        network,
-    }
-}
-
-// The records of a plan, from the first to kind 0 or to the first fault: 0 or 1 to 5. "A refused plan hands back a network of zeros", and
-// the sets of an accepted one are still empty.
-pub fn read_lists(bytes: &[u8]) -> Planned
-    ensures { result ≡ lists_of bytes.now }
-{
-    let none = zeros();
-    let mut net = none;
+    let mut network = zeros();
     let mut cursor = Cursor { at: 0 };
     loop {
-        let place = cursor.at;
-        match cursor.read(bytes) {
-            Read::Nothing => return answer(OUT_OF_ORDER, bytes.len(), none),
-            Read::Unknown => return answer(KIND_UNKNOWN, place, none),
-            Read::Short => return answer(CUT_SHORT, place, none),
-            Read::Whole(rec, next) => {
-                let number = rule(net, rec);
-                if number != ACCEPTED {
-                    return answer(number, place, none);
-                }
-                if closes(rec) {
-                    return answer(ACCEPTED, next.at, net);
-                }
-                let more = add(net, rec);
-                net = more;
-                cursor = next;
-            }
+        let (rec, next) = cursor.read(bytes)?;
+        if let Err(refusal) = rule(&network, rec) {
+            let place = cursor.at;
+            return Err(Refused { refusal, place });
         }
+        if rec == Record::End {
+            let taken = next.at;
+            return Ok(Plan { taken, network });
+        }
+        add(&mut network, rec);
+        cursor = next;
     }
 }

@@ -1,5 +1,4 @@
 -- `first_flags`: the flags of the links passed are those of the first links, and the table stands as after them.
-use Prim.Native.Nat.{◌≤◌, ◌-◌}
 use mathlib.Core.Path.{◌≡◌}
 use lib.ListN.{replicate}
 use Rattle.laws.specs.Below.{over_below}
@@ -10,8 +9,5 @@ use Rattle.layout.proofs.first_flags.Given as goal
 
 abbrev pub invariant-loop-l : goal.invariant-loop-l
 invariant-loop-l l =
-    (l.l ≤ l.links) × Met (cluster_at l.roots l.lowers) (cluster_at l.roots l.uppers) l.l l.met
-    × (l.flags ≡ over_below (first_flag (cluster_at l.roots l.lowers) (cluster_at l.roots l.uppers)) l.l (replicate 128 0))
-
-abbrev pub decreases-loop-l : goal.decreases-loop-l
-decreases-loop-l l = l.links - l.l
+    Met (cluster_at l.roots l.net.lowers) (cluster_at l.roots l.net.uppers) l.l l.met
+    × (l.flags ≡ over_below (first_flag (cluster_at l.roots l.net.lowers) (cluster_at l.roots l.net.uppers)) l.l (replicate 128 0))

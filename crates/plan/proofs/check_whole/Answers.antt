@@ -1,49 +1,60 @@
--- `check_whole`: each return is the branch of `checks_of` that the walks and tests before it lead to. The names bound below are the places after
--- each walk and count, from the return back; what the code calls `untied` is by its contract what `checks_of` calls `first_untied net`, and so on.
-use mathlib.Core.Path.{◌∙◌, ap}
-use borrow.Author.Rules.{rules}
-use Rattle.laws.proofs.Choice.{picks}
-use Rattle.records.specs.Reader.{answered}
+-- `check_whole`: the first walk that refuses answers for all of them, and each that does not leaves the answer to those behind it.
+use mathlib.Core.Path.{◌∙◌}
+use Rattle.std.proofs.lemmas.Result.{err_from_is_err_and}
 use Rattle.plan.specs.Checks.{checks_of}
+use Rattle.plan.proofs.Walks.{walk_stops, walk_passes}
 use Rattle.plan.proofs.check_whole.Goals as goal
 
-pub returns-then-untied-nodes : goal.returns-then-untied-nodes
+pub returns-in_err-none_at : goal.returns-in_err-none_at
 unfolding checks_of
-returns-then-untied-nodes c =
-    c.answer.ensures
-    ∙ ap (answered _ _) c.zeros-none.ensures
-    ∙ rw (← c.first_untied-untied.ensures, ← c.at_most-nodes.ensures) (search (rules, picks) depth 8)
+returns-in_err-none_at c =
+    let p = err_from_is_err_and c.from_residual.result c.from_residual.ensures.1 in
+    rw (p.1, p.2)
+    (walk_stops _ _ _ _ _ c.first_untied.ensures c.none_at.ensures _ _ c.in_err-none_at.was)
 
-pub returns-then-lost-nodes : goal.returns-then-lost-nodes
+pub returns-in_err-none_at-2 : goal.returns-in_err-none_at-2
 unfolding checks_of
-returns-then-lost-nodes c =
-    c.answer-then-lost-nodes.ensures
-    ∙ ap (answered _ _) c.zeros-none.ensures
-    ∙ rw (← c.first_lost-lost.ensures, ← c.first_untied-untied.ensures, ← c.at_most-nodes.ensures) (search (rules, picks) depth 8)
+returns-in_err-none_at-2 c =
+    let p = err_from_is_err_and c.from_residual-in_err-none_at-2.result c.from_residual-in_err-none_at-2.ensures.1 in
+    rw (p.1, p.2)
+    (walk_stops _ _ _ _ _ c.first_lost.ensures c.none_at-2.ensures _ _ c.in_err-none_at-2.was
+    ∙ walk_passes _ _ _ _ _ c.first_untied.ensures c.none_at.ensures _ _ c.in_ok-none_at.was)
 
-pub returns-then-inside-links : goal.returns-then-inside-links
+pub returns-in_err-none_at-3 : goal.returns-in_err-none_at-3
 unfolding checks_of
-returns-then-inside-links c =
-    c.answer-then-inside-links.ensures
-    ∙ ap (answered _ _) c.zeros-none.ensures
-    ∙ rw (← c.first_inside-inside.ensures, ← c.first_lost-lost.ensures, ← c.first_untied-untied.ensures, ← c.at_most-nodes.ensures, ← c.at_most-links.ensures) (search (rules, picks) depth 8)
+returns-in_err-none_at-3 c =
+    let p = err_from_is_err_and c.from_residual-in_err-none_at-3.result c.from_residual-in_err-none_at-3.ensures.1 in
+    rw (p.1, p.2)
+    (walk_stops _ _ _ _ _ c.first_inside.ensures c.none_at-3.ensures _ _ c.in_err-none_at-3.was
+    ∙ walk_passes _ _ _ _ _ c.first_lost.ensures c.none_at-2.ensures _ _ c.in_ok-none_at-2.was
+    ∙ walk_passes _ _ _ _ _ c.first_untied.ensures c.none_at.ensures _ _ c.in_ok-none_at.was)
 
-pub returns-then-not_one-links : goal.returns-then-not_one-links
+pub returns-in_err-none_at-4 : goal.returns-in_err-none_at-4
 unfolding checks_of
-returns-then-not_one-links c =
-    c.answer-then-not_one-links.ensures
-    ∙ ap (answered _ _) c.zeros-none.ensures
-    ∙ rw (← c.first_not_one-not_one.ensures, ← c.first_inside-inside.ensures, ← c.first_lost-lost.ensures, ← c.first_untied-untied.ensures, ← c.at_most-nodes.ensures, ← c.at_most-links.ensures) (search (rules, picks) depth 8)
+returns-in_err-none_at-4 c =
+    let p = err_from_is_err_and c.from_residual-in_err-none_at-4.result c.from_residual-in_err-none_at-4.ensures.1 in
+    rw (p.1, p.2)
+    (walk_stops _ _ _ _ _ c.first_not_one.ensures c.none_at-4.ensures _ _ c.in_err-none_at-4.was
+    ∙ walk_passes _ _ _ _ _ c.first_inside.ensures c.none_at-3.ensures _ _ c.in_ok-none_at-3.was
+    ∙ walk_passes _ _ _ _ _ c.first_lost.ensures c.none_at-2.ensures _ _ c.in_ok-none_at-2.was
+    ∙ walk_passes _ _ _ _ _ c.first_untied.ensures c.none_at.ensures _ _ c.in_ok-none_at.was)
 
-pub returns-then-unjoined-nodes : goal.returns-then-unjoined-nodes
+pub returns-in_err-none_at-5 : goal.returns-in_err-none_at-5
 unfolding checks_of
-returns-then-unjoined-nodes c =
-    c.answer-then-unjoined-nodes.ensures
-    ∙ ap (answered _ _) c.zeros-none.ensures
-    ∙ rw (← c.first_unjoined-unjoined.ensures, ← c.first_not_one-not_one.ensures, ← c.first_inside-inside.ensures, ← c.first_lost-lost.ensures, ← c.first_untied-untied.ensures, ← c.at_most-nodes.ensures, ← c.at_most-links.ensures) (search (rules, picks) depth 8)
+returns-in_err-none_at-5 c =
+    let p = err_from_is_err_and c.from_residual-in_err-none_at-5.result c.from_residual-in_err-none_at-5.ensures.1 in
+    rw (p.1, p.2)
+    (walk_stops _ _ _ _ _ c.first_unjoined.ensures c.none_at-5.ensures _ _ c.in_err-none_at-5.was
+    ∙ walk_passes _ _ _ _ _ c.first_not_one.ensures c.none_at-4.ensures _ _ c.in_ok-none_at-4.was
+    ∙ walk_passes _ _ _ _ _ c.first_inside.ensures c.none_at-3.ensures _ _ c.in_ok-none_at-3.was
+    ∙ walk_passes _ _ _ _ _ c.first_lost.ensures c.none_at-2.ensures _ _ c.in_ok-none_at-2.was
+    ∙ walk_passes _ _ _ _ _ c.first_untied.ensures c.none_at.ensures _ _ c.in_ok-none_at.was)
 
 pub returns : goal.returns
 unfolding checks_of
 returns c =
-    c.answer-2.ensures
-    ∙ rw (← c.first_unjoined-unjoined.ensures, ← c.first_not_one-not_one.ensures, ← c.first_inside-inside.ensures, ← c.first_lost-lost.ensures, ← c.first_untied-untied.ensures, ← c.at_most-nodes.ensures, ← c.at_most-links.ensures) (search (rules, picks) depth 8)
+    walk_passes _ _ _ _ _ c.first_unjoined.ensures c.none_at-5.ensures _ _ c.in_ok-none_at-5.was
+    ∙ walk_passes _ _ _ _ _ c.first_not_one.ensures c.none_at-4.ensures _ _ c.in_ok-none_at-4.was
+    ∙ walk_passes _ _ _ _ _ c.first_inside.ensures c.none_at-3.ensures _ _ c.in_ok-none_at-3.was
+    ∙ walk_passes _ _ _ _ _ c.first_lost.ensures c.none_at-2.ensures _ _ c.in_ok-none_at-2.was
+    ∙ walk_passes _ _ _ _ _ c.first_untied.ensures c.none_at.ensures _ _ c.in_ok-none_at.was

@@ -1,69 +1,49 @@
 use native.Mathlib.Omega.{arith}
-use mathlib.Core.Path.{◌≡◌, sym, ◌∙◌, ap, ap₂}
-use Rattle.records.specs.declared.Read.TheVariants.{Whole}
-use Rattle.records.specs.Numbers.{accepted, kind_unknown, cut_short, out_of_order}
-use Rattle.records.specs.Record.{read_at}
-use Rattle.records.specs.Rules.{rule_of}
-use Rattle.records.specs.Reader.{HasRoom, answered}
+use mathlib.Core.Path.{◌≡◌, sym, ◌∙◌, ap}
+use mathlib.Core.Bool.{false}
+use Rattle.std.proofs.Common.{rules}
+use Rattle.std.proofs.lemmas.Result.{err_from_is_err_and}
+use Rattle.network.specs.Zeros.{zero_network}
+use Rattle.records.specs.declared.Record.TheVariants.{End}
+use Rattle.records.specs.Record.{Whole, read_at}
+use Rattle.records.specs.Reader.{closes_of, answered}
+use Rattle.records.proofs.Begun.{not_end_goes}
 use Rattle.records.proofs.Rules.{kept_has_room}
-use Rattle.records.proofs.Turns.{starts, whole_ends, at_the_end, at_no_kind, at_cut_body, at_fault, at_kind_0, goes_on}
+use Rattle.records.proofs.Turns.{starts, whole_ends, whole_found, at_refused, at_fault, at_kind_0, goes_on, refusal_is_no_0}
 use Rattle.records.proofs.read_lists.Goals as goal
-use Rattle.records.proofs.read_lists.Goals.{In-Whole, Else-closes, Else-number-ne-ACCEPTED}
+use Rattle.records.proofs.read_lists.Goals.{In_ok-rec}
 
--- ---- a whole record: what stood at the place where its turn began, that it keeps the rules, and that the lists have room for it
-
-read_whole : (c : In-Whole) → read_at c.args.bytes.now c.loop-rec.cursor.at ≡ Whole c.in-Whole.rec c.in-Whole.next
-read_whole c = sym c.read.ensures ∙ c.in-Whole.is
-
-kept : (c : Else-number-ne-ACCEPTED) → rule_of c.loop-rec.net c.in-Whole.rec ≡ accepted
-kept c = sym c.rule-number.ensures ∙ c.if-number-ne-ACCEPTED.false
-
-room : (c : Else-closes) → HasRoom c.loop-rec.net c.in-Whole.rec
-room c = kept_has_room c.loop-rec.net c.in-Whole.rec (sym c.rule-number.ensures ∙ c.if-number-ne-ACCEPTED.false)
+-- what stood at the place where the turn began
+read_whole : (c : In_ok-rec) → read_at c.args.bytes.now c.loop-rec.cursor.at ≡ Whole c.in_ok-rec.rec c.in_ok-rec.next
+read_whole c = whole_found _ _ _ _ (sym c.read.ensures ∙ c.in_ok-rec.was)
 
 pub loop-rec-init : goal.loop-rec-init
-loop-rec-init c = rw c.zeros-none.ensures (starts _)
+loop-rec-init c = rw c.zeros-network.ensures (starts _)
 
-pub returns-in-Nothing : goal.returns-in-Nothing
-returns-in-Nothing c =
-    c.answer.ensures
-    ∙ ap (answered out_of_order _) c.zeros-none.ensures
-    ∙ at_the_end c.loop-rec.invariant (sym c.read.ensures ∙ c.in-Nothing.is)
+pub returns-in_err-rec : goal.returns-in_err-rec
+returns-in_err-rec c =
+    let p = err_from_is_err_and c.from_residual.result c.from_residual.ensures.1 in
+    rw (p.1, p.2) (at_refused c.loop-rec.invariant _ (sym c.read.ensures ∙ c.in_err-rec.was))
 
-pub returns-in-Unknown : goal.returns-in-Unknown
-returns-in-Unknown c =
-    c.answer-in-Unknown.ensures
-    ∙ ap (answered kind_unknown _) c.zeros-none.ensures
-    ∙ at_no_kind c.loop-rec.invariant (sym c.read.ensures ∙ c.in-Unknown.is)
+pub returns-in-Err : goal.returns-in-Err
+returns-in-Err c =
+    ap (λ k. answered k c.loop-rec.cursor.at zero_network) c.in-Err.ensures
+    ∙ at_fault c.loop-rec.invariant (read_whole (goal.at.returns-in-Err c).In_ok-rec) (λ z. refusal_is_no_0 c.in-Err.refusal (c.in-Err.ensures ∙ z))
 
-pub returns-in-Short : goal.returns-in-Short
-returns-in-Short c =
-    c.answer-in-Short.ensures
-    ∙ ap (answered cut_short _) c.zeros-none.ensures
-    ∙ at_cut_body c.loop-rec.invariant (sym c.read.ensures ∙ c.in-Short.is)
+pub returns-then-eq : goal.returns-then-eq
+returns-then-eq c =
+    let e : c.in_ok-rec.rec ≡ End = search rules in
+    at_kind_0 c.loop-rec.invariant (read_whole (goal.at.returns-then-eq c).In_ok-rec) (sym c.in_default.ensures) (ap closes_of e)
 
-pub rule-number-requires : goal.rule-number-requires
-rule-number-requires c = c.loop-rec.invariant.few_links
-
-pub returns-then-number-ne-ACCEPTED : goal.returns-then-number-ne-ACCEPTED
-returns-then-number-ne-ACCEPTED c =
-    c.answer-then-number-ne-ACCEPTED.ensures
-    ∙ ap₂ (λ k net. answered k c.loop-rec.cursor.at net) c.rule-number.ensures c.zeros-none.ensures
-    ∙ at_fault c.loop-rec.invariant (read_whole (goal.at.returns-then-number-ne-ACCEPTED c).In-Whole) (λ e. c.if-number-ne-ACCEPTED.true (c.rule-number.ensures ∙ e))
-
-pub returns-then-closes : goal.returns-then-closes
-returns-then-closes c =
-    c.answer-then-closes.ensures
-    ∙ at_kind_0 c.loop-rec.invariant (read_whole (goal.at.returns-then-closes c).In-Whole) (kept (goal.at.returns-then-closes c).Else-number-ne-ACCEPTED) (sym c.closes.ensures ∙ c.if-closes.true)
-
-pub add-more-requires : goal.add-more-requires
-add-more-requires c = room (goal.at.add-more-requires c).Else-closes
+pub add-requires : goal.add-requires
+add-requires c = kept_has_room c.loop-rec.network c.in_ok-rec.rec (sym c.in_default.ensures)
 
 pub loop-rec-smaller : goal.loop-rec-smaller
 loop-rec-smaller c =
-    omega (arith, whole_ends c.args.bytes.now c.loop-rec.cursor.at c.in-Whole.rec c.in-Whole.next (read_whole (goal.at.loop-rec-smaller c).In-Whole))
+    omega (arith, whole_ends c.args.bytes.now c.loop-rec.cursor.at c.in_ok-rec.rec c.in_ok-rec.next (read_whole (goal.at.loop-rec-smaller c).In_ok-rec))
 
 pub loop-rec-preserved : goal.loop-rec-preserved
 loop-rec-preserved c =
-    rw c.add-more.ensures
-    (goes_on c.loop-rec.invariant (read_whole (goal.at.loop-rec-preserved c).In-Whole) (kept (goal.at.loop-rec-preserved c).Else-number-ne-ACCEPTED) (sym c.closes.ensures ∙ c.if-closes.false) (room (goal.at.loop-rec-preserved c).Else-closes))
+    let goes : closes_of c.in_ok-rec.rec ≡ false = not_end_goes c.in_ok-rec.rec (search rules) in
+    rw c.add.ensures
+    (goes_on c.loop-rec.invariant (read_whole (goal.at.loop-rec-preserved c).In_ok-rec) (sym c.in_default.ensures) goes (kept_has_room c.loop-rec.network c.in_ok-rec.rec (sym c.in_default.ensures)))

@@ -6,7 +6,7 @@ use Rattle.records.proofs.Turns.{Reading}
 use Rattle.records.proofs.read_lists.Given as goal
 
 abbrev pub invariant-loop-rec : goal.invariant-loop-rec
-invariant-loop-rec l = Reading l.bytes l.cursor.at l.net
+invariant-loop-rec l = Reading l.bytes l.cursor.at l.network
 
 abbrev pub decreases-loop-rec : goal.decreases-loop-rec
 decreases-loop-rec l = length l.bytes - l.cursor.at
