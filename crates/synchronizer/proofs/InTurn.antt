@@ -11,12 +11,15 @@ use mathlib.Core.Bool.{true}
 use mathlib.Core.List.{List}
 use lib.ListN.{length, take, drop, length-drop}
 use lib.Seq.{drop-drop}
+use Rattle.std.specs.Prelude.{Result, Ok, Err}
 use Rattle.laws.specs.Choice.{if_b, if_lt, if_eq}
 use Rattle.laws.proofs.Choice.{if_b_yes, if_lt_yes, if_lt_no, if_eq_yes, if_eq_no, b_elim, lt_elim, eq_elim, both_left, both_right, both_yes}
+use Rattle.answers.specs.declared.Refusal.{Refusal}
+use Rattle.answers.specs.Numbers.{number_of}
 use Rattle.network.specs.declared.Network.{Network}
 use Rattle.network.specs.Valid.{valid_network}
 use Rattle.actions.specs.declared.Kind.{Kind}
-use Rattle.actions.specs.declared.Record.{Record}
+use Rattle.actions.specs.declared.Act.{Act}
 use Rattle.actions.specs.Records.{read_at}
 use Rattle.actions.proofs.Records.{read_dropped, record_bytes_only}
 use Rattle.synchronizer.specs.declared.State.{State}
@@ -28,7 +31,7 @@ use Rattle.synchronizer.specs.Valid.{valid_state, Sized}
 use Rattle.synchronizer.specs.Entry.{done, acted, ran, in_range, done_in, done_of, acted_as, record_in, act_in, act_of, list_from, list_of}
 use Rattle.synchronizer.specs.InTurn.{further, one_by_one, called, by_methods, width_of, records_between}
 use Rattle.synchronizer.proofs.Keeps.{Sound, done_in_keeps, act_in_keeps}
-use Rattle.synchronizer.proofs.Turns.{taken_act, list_on, list_stops, list_ends}
+use Rattle.synchronizer.proofs.Turns.{some_number, taken_act, list_on, list_stops, list_ends}
 
 -- ---- 17 is looked at again and again, and passes
 
@@ -143,12 +146,12 @@ module _ (net : Network) (v : valid_network net ≡ true) where
           ∙ ih d.state bytes (at + width) (taken + 1) k
           ∙ sym (if_eq_yes d.answer 0 (by_methods net turns d.state bytes (at + width) (taken + 1)) (ran d.answer at taken s) z)
 
-      by : (r : Record) → Same → listed (record_in w s r) ≡ called net (λ t to. by_methods net turns t bytes to (taken + 1)) s at taken r
-      by Record.Unknown ih = if_eq_no 11 0 _ (ran 11 at taken s) (λ e. omega (arith, e))
-      by Record.Short ih = if_eq_no 12 0 _ (ran 12 at taken s) (λ e. omega (arith, e))
-      by (Record.Act k p q width) ih =
-          of_method width (done_in w s k p q) (done_in_keeps net v s k p q h) ih (dec_lt 0 (done_in w s k p q).answer)
-          ∙ ap (method width) (sym (done_again s k p q h))
+      by : (r : Result Act Refusal) → Same → listed (record_in w s r) ≡ called net (λ t to. by_methods net turns t bytes to (taken + 1)) s at taken r
+      by (Err e) ih = if_eq_no (number_of e) 0 _ (ran (number_of e) at taken s) (λ z. omega (arith, z, some_number e))
+      by (Ok a) ih =
+          let d : Done = done_in w s a.kind a.p a.q in
+          of_method a.width d (done_in_keeps net v s a.kind a.p a.q h) ih (dec_lt 0 d.answer)
+          ∙ ap (method a.width) (sym (done_again s a.kind a.p a.q h))
 
 -- ---- the list, whole
 
@@ -191,11 +194,10 @@ module _ (w : Wires) (bytes : List ℕ) where
   unfolding act_in record_in acted_as width_of
   taken_width s at = by (read_at bytes at)
     where
-      by : (r : Record) → (record_in w s r).answer ≡ 0 → (record_in w s r).place ≡ width_of r
-      by Record.Unknown z = absurd (omega arith)
-      by Record.Short z = absurd (omega arith)
-      by (Record.Act k p q width) z =
-          eq_elim {A = Acted} (λ x. x.answer ≡ 0 → x.place ≡ width) (done_in w s k p q).answer 0 _ _ (λ _ _. refl) (λ n y. absurd (n y)) z
+      by : (r : Result Act Refusal) → (record_in w s r).answer ≡ 0 → (record_in w s r).place ≡ width_of r
+      by (Err e) z = absurd (omega (arith, z, some_number e))
+      by (Ok a) z =
+          eq_elim {A = Acted} (λ x. x.answer ≡ 0 → x.place ≡ a.width) (done_in w s a.kind a.p a.q).answer 0 _ _ (λ _ _. refl) (λ n y. absurd (n y)) z
 
   taken_from : (turns : ℕ) (s : State) (at taken : ℕ) → (list_from turns w s bytes at taken).taken ≡ taken + records_between turns bytes at (list_from turns w s bytes at taken).place
   unfolding list_from records_between
@@ -225,7 +227,7 @@ taken_is_records_before net s bytes =
 
 -- ---- "bytes after it are not read"
 
-pub action_bytes_only : (net : Network) (s : State) (bytes other : List ℕ) (k : Kind) (p q width : ℕ) → read_at bytes 0 ≡ Record.Act k p q width → take width bytes ≡ take width other → act_of net s other ≡ act_of net s bytes
+pub action_bytes_only : (net : Network) (s : State) (bytes other : List ℕ) (a : Act) → read_at bytes 0 ≡ Ok a → take a.width bytes ≡ take a.width other → act_of net s other ≡ act_of net s bytes
 unfolding act_of act_in
-action_bytes_only net s bytes other k p q width e t =
-    ap (λ r. if_b (in_range net s) (record_in (wires_of net) s r) (acted 17 0 s)) (record_bytes_only bytes other 0 k p q width t e ∙ sym e)
+action_bytes_only net s bytes other a e t =
+    ap (λ r. if_b (in_range net s) (record_in (wires_of net) s r) (acted 17 0 s)) (record_bytes_only bytes other 0 a.kind a.p a.q a.width t e ∙ sym e)

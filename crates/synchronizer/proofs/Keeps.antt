@@ -11,6 +11,8 @@ use mathlib.Core.List.{List}
 use lib.Dec.{eqb}
 use lib.ListN.{length, get_or, set, replicate, length-set, length-replicate, get_or-eq_default}
 use borrow.Author.Tests.{eqb-true}
+use Rattle.std.specs.Prelude.{Result, Ok, Err}
+use Rattle.answers.specs.declared.Refusal.{Refusal}
 use Rattle.laws.specs.Choice.{if_b, both}
 use Rattle.laws.specs.Below.{all_below}
 use Rattle.laws.proofs.Choice.{if_b_yes, b_elim, lt_elim, eq_elim, both_left, true_not_false}
@@ -19,7 +21,7 @@ use Rattle.network.specs.Valid.{valid_network}
 use Rattle.network.proofs.Valid.{valid_limits, valid_rest}
 use Rattle.actions.specs.declared.Kind.{Kind}
 use Rattle.actions.specs.declared.Does.{Does}
-use Rattle.actions.specs.declared.Record.{Record}
+use Rattle.actions.specs.declared.Act.{Act}
 use Rattle.actions.specs.Kinds.{kinds, index_of, kind_at, count, cell_of, count_in}
 use Rattle.actions.specs.Table.{place_of, need_of, does_of}
 use Rattle.actions.specs.Records.{names_of, body_of, read_at}
@@ -37,7 +39,8 @@ use Rattle.synchronizer.specs.Entry.{done, in_range, done_in, done_of, acted_as,
 use Rattle.synchronizer.specs.Valid.{valid_state, Sized}
 use Rattle.laws.proofs.Entries.{set_keeps_at, repeated_at}
 use Rattle.queue.specs.declared.Head.{Head}
-use Rattle.queue.specs.Queue.{packet, ack, head_of, Queues, queues, pushed, slot_at, heard_in}
+use Rattle.queue.specs.declared.Queues.{Queues}
+use Rattle.queue.specs.Queue.{packet, ack, head_of, pushed, slot_at, heard_in}
 use Rattle.ranges.specs.Fits.{used_by, entry_fits, load_fits, past_fits}
 use Rattle.synchronizer.proofs.States.{Message, a_packet_lem, an_ack_lem, entry_of, entry_most, sort_of, load_of, past_of, Passes, valid_passes, passes_valid, used_at_most_256}
 use Rattle.synchronizer.proofs.Turns.{refused_done, refused_act}
@@ -58,7 +61,7 @@ RestSound used n xs = ((x : ℕ) → x < n → past_fits used x (get_or xs x 0) 
 
 record Kept (net : Network) (s : State) : Type 0 where
   counts : CountsSound net s.counts
-  queues : QueuesSound net.links (queues s.lens s.sorts s.loads)
+  queues : QueuesSound net.links s.queues
   slots : RestSound (net.links * 4) 512 s.slots
   values : RestSound net.nodes 64 s.values
 
@@ -141,7 +144,7 @@ module _ (net : Network) (v : valid_network net ≡ true) (w : Wires) (p d i : �
   effect_keeps does = at does
     where
       u : Queues
-      u = queues s.lens s.sorts s.loads
+      u = s.queues
 
       with_queues : (u : Queues) → QueuesSound net.links u → (slots : List ℕ) → RestSound (net.links * 4) 512 slots → Kept net (state_of s.counts u.lens u.sorts u.loads slots s.values)
       with_queues u q slots a = record { counts = kept.counts; queues = q; slots = a; values = kept.values }
@@ -161,7 +164,7 @@ module _ (net : Network) (v : valid_network net ≡ true) (w : Wires) (p d i : �
           with_queues _ (pushes packet (get_or s.values p 0) (h refl) (a_packet_lem refl) (load_of (λ none. absurd (none refl)))) s.slots kept.slots
       at Does.SendsAck h = with_queues _ (pushes ack 0 (h refl) (an_ack_lem refl) (load_of (λ _. refl))) s.slots kept.slots
       at Does.TakesPacket h =
-          with_queues _ (popped_keeps net.links u kept.queues d) _ (heard_keeps (head_of s.lens s.sorts s.loads d) (h refl))
+          with_queues _ (popped_keeps net.links u kept.queues d) _ (heard_keeps (head_of s.queues.lens s.queues.sorts s.queues.loads d) (h refl))
       at Does.TakesAck h = with_queues _ (popped_keeps net.links u kept.queues d) s.slots kept.slots
       at Does.Means h =
           let mean : ℕ = mean_heard w.lanes s.slots (get_or w.neighbours p 0) p (get_or s.values p 0) i in
@@ -209,11 +212,10 @@ module _ (net : Network) (v : valid_network net ≡ true) where
   unfolding act_in record_in acted_as
   act_in_keeps s bytes at h = by (read_at bytes at)
     where
-      by : (r : Record) → Sound net (record_in (wires_of net) s r).state
-      by Record.Unknown = h
-      by Record.Short = h
-      by (Record.Act k p q width) =
-          eq_elim {A = Acted} (λ r. Sound net r.state) (done_in (wires_of net) s k p q).answer 0 _ _ (λ _. done_in_keeps s k p q h) (λ _. done_in_keeps s k p q h)
+      by : (r : Result Act Refusal) → Sound net (record_in (wires_of net) s r).state
+      by (Err e) = h
+      by (Ok a) =
+          eq_elim {A = Acted} (λ r. Sound net r.state) (done_in (wires_of net) s a.kind a.p a.q).answer 0 _ _ (λ _. done_in_keeps s a.kind a.p a.q h) (λ _. done_in_keeps s a.kind a.p a.q h)
 
   pub list_from_keeps : (turns : ℕ) (s : State) (bytes : List ℕ) (at taken : ℕ) → Sound net s → Sound net (list_from turns (wires_of net) s bytes at taken).state
   unfolding list_from

@@ -1,11 +1,9 @@
 pub mod Answers
 pub mod Directions
-pub mod Effects
 pub mod InTurn
 pub mod Keeps
 pub mod Ranges
 pub mod Rows
-pub mod Sizes
 pub mod States
 pub mod Taken
 pub mod Taking

@@ -22,7 +22,8 @@ use Rattle.actions.specs.declared.Kind.{Kind}
 use Rattle.actions.specs.Kinds.{kinds, index_of, kind_at, count, count_in}
 use Rattle.actions.specs.Records.{body_of}
 use Rattle.actions.proofs.Numbers.{seated}
-use Rattle.queue.specs.Queue.{packet, ack, Queues, queues}
+use Rattle.queue.specs.declared.Queues.{Queues}
+use Rattle.queue.specs.Queue.{packet, ack}
 use Rattle.ranges.specs.Fits.{used_by, entry_fits, row_fits, counts_fit, lengths_fit, sort_fits, sorts_fit, load_fits, loads_fit, past_fits, rest_fits, state_fits}
 use Rattle.synchronizer.specs.declared.State.{State}
 use Rattle.synchronizer.specs.Valid.{valid_state, StateClauses}
@@ -94,16 +95,16 @@ pub record QueuesPass (links : ℕ) (u : Queues) : Type 0 where
 
 pub record Passes (net : Network) (s : State) : Type 0 where
   pub counted : (k : Kind) (x : ℕ) → x < 256 → entry_fits net.rounds (used_by net.nodes net.links k) x (count_in s.counts (count k x)) ≡ true
-  pub queued : QueuesPass net.links (queues s.lens s.sorts s.loads)
+  pub queued : QueuesPass net.links s.queues
   pub slot : (x : ℕ) → x < 512 → past_fits (net.links * 4) x (get_or s.slots x 0) ≡ true
   pub value : (p : ℕ) → p < 64 → past_fits net.nodes p (get_or s.values p 0) ≡ true
 
 module _ (net : Network) (s : State) where
   parts : valid_state net s ≡ true
       → (counts_fit net.nodes net.links net.rounds s.counts ≡ true)
-      × (lengths_fit net.links s.lens ≡ true)
-      × (sorts_fit s.lens s.sorts ≡ true)
-      × (loads_fit s.sorts s.loads ≡ true)
+      × (lengths_fit net.links s.queues.lens ≡ true)
+      × (sorts_fit s.queues.lens s.queues.sorts ≡ true)
+      × (loads_fit s.queues.sorts s.queues.loads ≡ true)
       × (rest_fits (net.links * 4) s.slots 512 ≡ true)
       × (rest_fits net.nodes s.values 64 ≡ true)
   unfolding valid_state state_fits
@@ -136,7 +137,7 @@ module _ (net : Network) (s : State) where
       at_kind : all_below (λ i. row_fits net.rounds (used_by net.nodes net.links (kind_at i)) s.counts (kind_at i)) (length kinds) ≡ true → (k : Kind) (x : ℕ) → x < 256 → entry_fits net.rounds (used_by net.nodes net.links k) x (count_in s.counts (count k x)) ≡ true
       at_kind a k x h = all_at _ 256 (row a k) x h
 
-      place : (d j : ℕ) → j < 2 → both (sort_fits (get_or s.lens d 0) 0 (get_or s.sorts (d * 2) 0)) (sort_fits (get_or s.lens d 0) 1 (get_or s.sorts (d * 2 + 1) 0)) ≡ true → sort_fits (get_or s.lens d 0) j (get_or s.sorts (d * 2 + j) 0) ≡ true
+      place : (d j : ℕ) → j < 2 → both (sort_fits (get_or s.queues.lens d 0) 0 (get_or s.queues.sorts (d * 2) 0)) (sort_fits (get_or s.queues.lens d 0) 1 (get_or s.queues.sorts (d * 2 + 1) 0)) ≡ true → sort_fits (get_or s.queues.lens d 0) j (get_or s.queues.sorts (d * 2 + j) 0) ≡ true
       place d zero l c = rw (add-zero (d * 2)) (both_left _ _ c)
       place d (suc zero) l c = both_right _ _ c
       place d (suc (suc j)) l c = absurd (omega arith)
@@ -185,21 +186,21 @@ module _ (net : Network) (n : valid_network net ≡ true) where
 
   module _ (s : State) (c : StateClauses net s) where
     -- past the link count a queue is empty, so a message that waits is on a direction of a link
-    waiting : (d j : ℕ) → d < 256 → j < get_or s.lens d 0 → (get_or s.sorts (d * 2 + j) 0 ≡ packet) ⊎ ((get_or s.sorts (d * 2 + j) 0 ≡ ack) × (get_or s.loads (d * 2 + j) 0 ≡ 0))
+    waiting : (d j : ℕ) → d < 256 → j < get_or s.queues.lens d 0 → (get_or s.queues.sorts (d * 2 + j) 0 ≡ packet) ⊎ ((get_or s.queues.sorts (d * 2 + j) 0 ≡ ack) × (get_or s.queues.loads (d * 2 + j) 0 ≡ 0))
     waiting d j h l = at (dec_lt d (net.links * 2))
       where
-        at : Dec (d < net.links * 2) → (get_or s.sorts (d * 2 + j) 0 ≡ packet) ⊎ ((get_or s.sorts (d * 2 + j) 0 ≡ ack) × (get_or s.loads (d * 2 + j) 0 ≡ 0))
+        at : Dec (d < net.links * 2) → (get_or s.queues.sorts (d * 2 + j) 0 ≡ packet) ⊎ ((get_or s.queues.sorts (d * 2 + j) 0 ≡ ack) × (get_or s.queues.loads (d * 2 + j) 0 ≡ 0))
         at (yes b) = c.queues.packet_or_ack d j b l
         at (no b) = absurd (omega (arith, c.rest.no_queue d (omega arith) h))
 
-    load_beside_packet : (d j : ℕ) → d < 256 → j < 2 → (get_or s.sorts (d * 2 + j) 0 ≡ packet → ⊥) → get_or s.loads (d * 2 + j) 0 ≡ 0
-    load_beside_packet d j h l none = at (dec_lt j (get_or s.lens d 0))
+    load_beside_packet : (d j : ℕ) → d < 256 → j < 2 → (get_or s.queues.sorts (d * 2 + j) 0 ≡ packet → ⊥) → get_or s.queues.loads (d * 2 + j) 0 ≡ 0
+    load_beside_packet d j h l none = at (dec_lt j (get_or s.queues.lens d 0))
       where
-        value : (get_or s.sorts (d * 2 + j) 0 ≡ packet) ⊎ ((get_or s.sorts (d * 2 + j) 0 ≡ ack) × (get_or s.loads (d * 2 + j) 0 ≡ 0)) → get_or s.loads (d * 2 + j) 0 ≡ 0
+        value : (get_or s.queues.sorts (d * 2 + j) 0 ≡ packet) ⊎ ((get_or s.queues.sorts (d * 2 + j) 0 ≡ ack) × (get_or s.queues.loads (d * 2 + j) 0 ≡ 0)) → get_or s.queues.loads (d * 2 + j) 0 ≡ 0
         value (inl p) = absurd (none p)
         value (inr p) = p.1
 
-        at : Dec (j < get_or s.lens d 0) → get_or s.loads (d * 2 + j) 0 ≡ 0
+        at : Dec (j < get_or s.queues.lens d 0) → get_or s.queues.loads (d * 2 + j) 0 ≡ 0
         at (yes b) = value (waiting d j h b)
         at (no b) = c.rest.no_load d j h (omega arith) l
 
@@ -211,7 +212,7 @@ module _ (net : Network) (n : valid_network net ≡ true) where
           queued = record {
             at_most_two = λ d h. entry_of (c.queues.at_most_two d) (λ l. c.rest.no_queue d l h);
             sort = λ d j h l. sort_of (λ b. message (waiting d j h b)) (λ b. c.rest.no_sort d j h b l);
-            load = λ e h. load_of (by_halves e (λ x. (get_or s.sorts x 0 ≡ packet → ⊥) → get_or s.loads x 0 ≡ 0) (load_beside_packet (e / 2) (e % 2) (omega arith) (omega arith)));
+            load = λ e h. load_of (by_halves e (λ x. (get_or s.queues.sorts x 0 ≡ packet → ⊥) → get_or s.queues.loads x 0 ≡ 0) (load_beside_packet (e / 2) (e % 2) (omega arith) (omega arith)));
           };
           slot = λ x h. past_of (λ l. by_halves x (λ i. get_or s.slots i 0 ≡ 0) (c.rest.no_slot (x / 2) (x % 2) (omega arith) (omega arith) (omega arith)));
           value = λ p h. past_of (λ l. c.rest.no_value p l h);

@@ -51,7 +51,7 @@ pub record Taken (w : Wires) (s : State) (k : Kind) (p q : ℕ) : Type 0 where
   -- not 16
   pub every : every_has (every_of k) s.counts w.lanes p (count_in s.counts (own_in w k p q)) (get_or w.neighbours p 0) (get_or w.children p 0) (get_or w.preferred p 0) ≡ true
   -- the queue from p to q has the message, or the room
-  pub queue : queue_answer (does_of k) (head_of s.lens s.sorts s.loads (lane_in w.lanes p q)) (get_or s.lens (lane_in w.lanes p q) 0) ≡ 0
+  pub queue : queue_answer (does_of k) (head_of s.queues.lens s.queues.sorts s.queues.loads (lane_in w.lanes p q)) (get_or s.queues.lens (lane_in w.lanes p q) 0) ≡ 0
 
 module _ (w : Wires) (s : State) (k : Kind) (p q : ℕ) where
   pub answer_0_taken : answer_in w s k p q ≡ 0 → Taken w s k p q

@@ -2,12 +2,17 @@
 -- Assumes nothing.
 use Prim.Native.Nat.{ℕ, zero, suc, ◌+◌, ◌<◌, ◌≤◌}
 use native.Mathlib.Omega.{arith}
+use native.Mathlib.Decide.{dec_lt}
 use mathlib.Core.Path.{◌≡◌, refl, sym, ◌∙◌, ap, subst}
 use mathlib.Core.List.{List}
 use lib.ListN.{length}
+use Rattle.std.specs.Prelude.{Result, Ok, Err}
 use Rattle.laws.proofs.Choice.{if_lt_yes, if_lt_no, if_eq_yes, if_eq_no, eq_elim}
+use Rattle.answers.specs.declared.Refusal.{Refusal}
+use Rattle.answers.specs.Numbers.{number_of}
+use Rattle.answers.proofs.Named.{answer_of-injective}
 use Rattle.actions.specs.declared.Kind.{Kind}
-use Rattle.actions.specs.declared.Record.{Record}
+use Rattle.actions.specs.declared.Act.{Act}
 use Rattle.actions.specs.Records.{read_at}
 use Rattle.actions.proofs.Records.{record_within}
 use Rattle.synchronizer.specs.declared.State.{State}
@@ -19,29 +24,32 @@ use Rattle.synchronizer.specs.Answer.{answer_in}
 use Rattle.synchronizer.specs.After.{after_in}
 use Rattle.synchronizer.specs.Entry.{done, acted, ran, done_in, acted_as, record_in, act_in, list_from}
 
-module _ (w : Wires) (s : State) (bytes : List ℕ) (at : ℕ) (r : Record) (so : r ≡ read_at bytes at) where
-  read_as : (x : Record) → r ≡ x → record_in w s x ≡ act_in w s bytes at
-  unfolding act_in
-  read_as x e = ap (record_in w s) (sym e ∙ so)
+-- a refusal has a number
+pub some_number : (e : Refusal) → 0 < number_of e
+some_number e = at (dec_lt 0 (number_of e))
+  where
+    at : Dec (0 < number_of e) → 0 < number_of e
+    at (yes h) = h
+    at (no h) = absurd (let same = answer_of-injective (Err e) (Ok tt) (omega arith) in cc)
 
-  pub unknown_kind : r ≡ Record.Unknown → acted 11 0 s ≡ act_in w s bytes at
-  unfolding record_in
-  unknown_kind e = read_as Record.Unknown e
+module _ (w : Wires) (s : State) (bytes : List ℕ) (at : ℕ) where
+  -- no action there
+  pub nothing_read : (e : Refusal) → Err e ≡ read_at bytes at → acted (number_of e) 0 s ≡ act_in w s bytes at
+  unfolding act_in record_in
+  nothing_read e so = ap (record_in w s) so
 
-  pub cut_short_lem : r ≡ Record.Short → acted 12 0 s ≡ act_in w s bytes at
-  unfolding record_in
-  cut_short_lem e = read_as Record.Short e
+  module _ (a : Act) (so : Ok a ≡ read_at bytes at) (t : State) where
+    pub refused_turn : (e : Refusal) → done (number_of e) t ≡ done_in w s a.kind a.p a.q → acted (number_of e) 0 t ≡ act_in w s bytes at
+    unfolding act_in record_in acted_as
+    refused_turn e d =
+        sym (if_eq_no (number_of e) 0 (acted 0 a.width t) (acted (number_of e) 0 t) (λ z. omega (arith, z, some_number e)))
+        ∙ ap (λ x. acted_as x a.width) d
+        ∙ ap (record_in w s) so
 
-  module _ (k : Kind) (p q width a : ℕ) (t : State) (e : r ≡ Record.Act k p q width) (d : done a t ≡ done_in w s k p q) where
-    pub refused_turn : 0 < a → acted a 0 t ≡ act_in w s bytes at
-    unfolding record_in acted_as
-    refused_turn h =
-        sym (if_eq_no a 0 (acted 0 width t) (acted a 0 t) (λ z. omega arith)) ∙ ap (λ x. acted_as x width) d ∙ read_as (Record.Act k p q width) e
-
-    pub taken_turn : a ≡ 0 → acted 0 width t ≡ act_in w s bytes at
-    unfolding record_in acted_as
-    taken_turn z =
-        sym (if_eq_yes a 0 (acted 0 width t) (acted a 0 t) z) ∙ ap (λ x. acted_as x width) d ∙ read_as (Record.Act k p q width) e
+    pub taken_turn : done 0 t ≡ done_in w s a.kind a.p a.q → acted 0 a.width t ≡ act_in w s bytes at
+    unfolding act_in record_in acted_as
+    taken_turn d =
+        sym (if_eq_yes 0 0 (acted 0 a.width t) (acted 0 0 t) refl) ∙ ap (λ x. acted_as x a.width) d ∙ ap (record_in w s) so
 
 -- ---- what a turn leaves
 
@@ -57,25 +65,23 @@ module _ (w : Wires) (s : State) where
     unfolding act_in record_in acted_as
     refused_act = by (read_at bytes at)
       where
-        by : (r : Record) → 0 < (record_in w s r).answer → (record_in w s r).state ≡ s
-        by Record.Unknown h = refl
-        by Record.Short h = refl
-        by (Record.Act k p q width) h =
-            let d : Done = done_in w s k p q in
-            eq_elim (λ x. 0 < x.answer → x.state ≡ s) d.answer 0 (acted 0 width d.state) (acted d.answer 0 d.state) (λ _ g. absurd (omega arith)) (λ _ g. refused_done k p q g) h
+        by : (r : Result Act Refusal) → 0 < (record_in w s r).answer → (record_in w s r).state ≡ s
+        by (Err e) h = refl
+        by (Ok a) h =
+            let d : Done = done_in w s a.kind a.p a.q in
+            eq_elim (λ x. 0 < x.answer → x.state ≡ s) d.answer 0 (acted 0 a.width d.state) (acted d.answer 0 d.state) (λ _ g. absurd (omega arith)) (λ _ g. refused_done a.kind a.p a.q g) h
 
     -- an action that is taken takes its record's bytes, two or three
     pub taken_act : (act_in w s bytes at).answer ≡ 0 → (1 < (act_in w s bytes at).place) × (at + (act_in w s bytes at).place ≤ length bytes)
     unfolding act_in record_in acted_as
     taken_act = by (read_at bytes at) refl
       where
-        by : (r : Record) → read_at bytes at ≡ r → (record_in w s r).answer ≡ 0 → (1 < (record_in w s r).place) × (at + (record_in w s r).place ≤ length bytes)
-        by Record.Unknown e z = absurd (omega arith)
-        by Record.Short e z = absurd (omega arith)
-        by (Record.Act k p q width) e z =
-            let d : Done = done_in w s k p q in
-            let within = record_within bytes at k p q width e in
-            eq_elim (λ x. x.answer ≡ 0 → (1 < x.place) × (at + x.place ≤ length bytes)) d.answer 0 (acted 0 width d.state) (acted d.answer 0 d.state) (λ _ _. (within.0, within.2)) (λ n y. absurd (n y)) z
+        by : (r : Result Act Refusal) → read_at bytes at ≡ r → (record_in w s r).answer ≡ 0 → (1 < (record_in w s r).place) × (at + (record_in w s r).place ≤ length bytes)
+        by (Err f) e z = absurd (omega (arith, z, some_number f))
+        by (Ok a) e z =
+            let d : Done = done_in w s a.kind a.p a.q in
+            let within = record_within bytes at a.kind a.p a.q a.width e in
+            eq_elim (λ x. x.answer ≡ 0 → (1 < x.place) × (at + x.place ≤ length bytes)) d.answer 0 (acted 0 a.width d.state) (acted d.answer 0 d.state) (λ _ _. (within.0, within.2)) (λ n y. absurd (n y)) z
 
     pub turn_moves : (t : Acted) → t ≡ act_in w s bytes at → t.answer ≡ 0 → (1 < t.place) × (at + t.place ≤ length bytes)
     turn_moves t e z =

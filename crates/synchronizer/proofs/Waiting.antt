@@ -11,7 +11,8 @@ use lib.ListN.{length, get_or, set, length-set, get_or-eq_default}
 use lib.Seq.{get_or-set_other}
 use Rattle.laws.proofs.Choice.{lt_elim}
 use Rattle.laws.proofs.Entries.{set_keeps_at, set_here}
-use Rattle.queue.specs.Queue.{Queues, queues, pushed, moved_up, popped}
+use Rattle.queue.specs.declared.Queues.{Queues}
+use Rattle.queue.specs.Queue.{queues, pushed, moved_up, popped}
 use Rattle.ranges.specs.Fits.{entry_fits, sort_fits, load_fits}
 use Rattle.synchronizer.proofs.States.{Message, entry_of, entry_most, entry_out, sort_in, sort_out, sort_of, load_of, QueuesPass}
 

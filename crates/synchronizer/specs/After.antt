@@ -9,7 +9,7 @@ use Rattle.actions.specs.declared.Counter.{Counter}
 use Rattle.actions.specs.declared.Does.{Does}
 use Rattle.actions.specs.Kinds.{cell_of, count_in}
 use Rattle.actions.specs.Table.{does_of}
-use Rattle.queue.specs.Queue.{packet, ack, head_of, Queues, queues, pushed, popped, slot_at, heard_in}
+use Rattle.queue.specs.Queue.{packet, ack, head_of, queues, pushed, popped, slot_at, heard_in}
 use Rattle.synchronizer.specs.declared.State.{State}
 use Rattle.synchronizer.specs.Wires.{Wires, wires_of, lane_in}
 use Rattle.synchronizer.specs.Answer.{own_in}
@@ -17,7 +17,7 @@ use Rattle.synchronizer.specs.Answer.{own_in}
 -- a state of its arrays
 abbrev pub state_of : List ℕ → List ℕ → List ℕ → List ℕ → List ℕ → List ℕ → State
 state_of counts lens sorts loads slots values =
-    record { counts = counts; lens = lens; sorts = sorts; loads = loads; slots = slots; values = values }
+    record { counts = counts; queues = queues lens sorts loads; slots = slots; values = values }
 
 -- "(own value + the values in the slots of i's parity from each neighbour) divided by (1 + number of neighbours)", to the nearest whole number
 unfoldable pub mean_heard : List ℕ → List ℕ → ℕ → ℕ → ℕ → ℕ → ℕ
@@ -29,27 +29,22 @@ module _ (w : Wires) where
   effect_in Does.Starts p d i s = s
   effect_in Does.Counts p d i s = s
   -- "A packet carries the value its sender has when the packet is sent"
-  effect_in Does.SendsPacket p d i s =
-      let u : Queues = pushed (queues s.lens s.sorts s.loads) d packet (get_or s.values p 0) in
-      state_of s.counts u.lens u.sorts u.loads s.slots s.values
-  effect_in Does.SendsAck p d i s =
-      let u : Queues = pushed (queues s.lens s.sorts s.loads) d ack 0 in
-      state_of s.counts u.lens u.sorts u.loads s.slots s.values
+  effect_in Does.SendsPacket p d i s = record s { queues = pushed s.queues d packet (get_or s.values p 0) }
+  effect_in Does.SendsAck p d i s = record s { queues = pushed s.queues d ack 0 }
   -- "Delivery i puts it in the slot of i's parity"
   effect_in Does.TakesPacket p d i s =
-      let u : Queues = popped (queues s.lens s.sorts s.loads) d in
-      state_of s.counts u.lens u.sorts u.loads (heard_in s.slots (head_of s.lens s.sorts s.loads d) d i) s.values
-  effect_in Does.TakesAck p d i s =
-      let u : Queues = popped (queues s.lens s.sorts s.loads) d in
-      state_of s.counts u.lens u.sorts u.loads s.slots s.values
+      record s {
+        queues = popped s.queues d;
+        slots = heard_in s.slots (head_of s.queues.lens s.queues.sorts s.queues.loads d) d i;
+      }
+  effect_in Does.TakesAck p d i s = record s { queues = popped s.queues d }
   -- "Input i of p sets its value"
   effect_in Does.Means p d i s =
-      state_of s.counts s.lens s.sorts s.loads s.slots
-      (set s.values p (mean_heard w.lanes s.slots (get_or w.neighbours p 0) p (get_or s.values p 0) i))
+      record s { values = set s.values p (mean_heard w.lanes s.slots (get_or w.neighbours p 0) p (get_or s.values p 0) i) }
 
   -- "its count then becomes i"
   unfoldable pub counted : State → Counter → ℕ → State
-  counted s c i = state_of (set s.counts (cell_of c) i) s.lens s.sorts s.loads s.slots s.values
+  counted s c i = record s { counts = set s.counts (cell_of c) i }
 
   -- the state after the action, where it is taken
   unfoldable pub after_in : State → Kind → ℕ → ℕ → State

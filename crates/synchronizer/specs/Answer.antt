@@ -82,7 +82,7 @@ module _ (w : Wires) where
   need_answer s k p q =
       if_eq counted 0
       (if_b (every_has (every_of k) s.counts w.lanes p n (get_or w.neighbours p 0) (get_or w.children p 0) (get_or w.preferred p 0))
-      (queue_answer (does_of k) (head_of s.lens s.sorts s.loads lane) (get_or s.lens lane 0))
+      (queue_answer (does_of k) (head_of s.queues.lens s.queues.sorts s.queues.loads lane) (get_or s.queues.lens lane 0))
       16)
       counted
     where

@@ -1,12 +1,14 @@
 -- The entry points: an action by its method, one action from bytes, a list of actions. Each looks at 17 first, then goes by the same answer
 -- and the same state after.
 -- Assumes nothing.
-use Rattle.std.specs.Prelude.{ℕ, zero, suc, ◌+◌, Bool, List, length}
+use Rattle.std.specs.Prelude.{ℕ, zero, suc, ◌+◌, Bool, List, length, Result, Ok, Err}
 use Rattle.laws.specs.Choice.{if_b, if_lt, if_eq, both}
+use Rattle.answers.specs.declared.Refusal.{Refusal}
+use Rattle.answers.specs.Numbers.{number_of}
 use Rattle.network.specs.declared.Network.{Network}
 use Rattle.network.specs.Valid.{valid_network}
 use Rattle.actions.specs.declared.Kind.{Kind}
-use Rattle.actions.specs.declared.Record.{Record}
+use Rattle.actions.specs.declared.Act.{Act}
 use Rattle.actions.specs.Records.{read_at}
 use Rattle.synchronizer.specs.declared.State.{State}
 use Rattle.synchronizer.specs.declared.Done.{Done}
@@ -43,10 +45,9 @@ unfoldable pub acted_as : Done → ℕ → Acted
 acted_as d width = if_eq d.answer 0 (acted 0 width d.state) (acted d.answer 0 d.state)
 
 -- what a record comes to
-unfoldable pub record_in : Wires → State → Record → Acted
-record_in w s Record.Unknown = acted 11 0 s
-record_in w s Record.Short = acted 12 0 s
-record_in w s (Record.Act k p q width) = acted_as (done_in w s k p q) width
+unfoldable pub record_in : Wires → State → Result Act Refusal → Acted
+record_in w s (Err e) = acted (number_of e) 0 s
+record_in w s (Ok a) = acted_as (done_in w s a.kind a.p a.q) a.width
 
 -- the record at a place of the bytes, taken or refused
 unfoldable pub act_in : Wires → State → List ℕ → ℕ → Acted

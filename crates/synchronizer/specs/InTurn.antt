@@ -1,10 +1,12 @@
 -- A list of actions in other words: its records handed in one by one as single actions, and the methods called in turn. And how many records
 -- stand before a place. `proofs/InTurn.antt` shows that the list comes to the same.
 -- Assumes nothing.
-use Rattle.std.specs.Prelude.{ℕ, zero, suc, ◌+◌, List, length, drop}
+use Rattle.std.specs.Prelude.{ℕ, zero, suc, ◌+◌, List, length, drop, Result, Ok, Err}
 use Rattle.laws.specs.Choice.{if_lt, if_eq}
+use Rattle.answers.specs.declared.Refusal.{Refusal}
+use Rattle.answers.specs.Numbers.{number_of}
 use Rattle.network.specs.declared.Network.{Network}
-use Rattle.actions.specs.declared.Record.{Record}
+use Rattle.actions.specs.declared.Act.{Act}
 use Rattle.actions.specs.Records.{read_at}
 use Rattle.synchronizer.specs.declared.State.{State}
 use Rattle.synchronizer.specs.declared.Ran.{Ran}
@@ -26,11 +28,11 @@ module _ (net : Network) where
       (ran 0 0 0 s)
 
   -- what a record comes to by its kind's method, where what follows an action that is taken is given
-  unfoldable pub called : (State → ℕ → Ran) → State → ℕ → ℕ → Record → Ran
-  called on s at taken Record.Unknown = ran 11 at taken s
-  called on s at taken Record.Short = ran 12 at taken s
-  called on s at taken (Record.Act k p q width) =
-      if_eq (done_of net s k p q).answer 0 (on (done_of net s k p q).state (at + width)) (ran (done_of net s k p q).answer at taken s)
+  unfoldable pub called : (State → ℕ → Ran) → State → ℕ → ℕ → Result Act Refusal → Ran
+  called on s at taken (Err e) = ran (number_of e) at taken s
+  called on s at taken (Ok a) =
+      if_eq (done_of net s a.kind a.p a.q).answer 0 (on (done_of net s a.kind a.p a.q).state (at + a.width))
+      (ran (done_of net s a.kind a.p a.q).answer at taken s)
 
   -- the method that each record names, one after the other, up to a refusal
   unfoldable pub by_methods : ℕ → State → List ℕ → ℕ → ℕ → Ran
@@ -39,10 +41,9 @@ module _ (net : Network) where
       if_lt at (length bytes) (called (λ t to. by_methods turns t bytes to (taken + 1)) s at taken (read_at bytes at)) (ran 0 at taken s)
 
 -- how many records stand from one place of the bytes up to another
-unfoldable pub width_of : Record → ℕ
-width_of Record.Unknown = 0
-width_of Record.Short = 0
-width_of (Record.Act k p q width) = width
+unfoldable pub width_of : Result Act Refusal → ℕ
+width_of (Err e) = 0
+width_of (Ok a) = a.width
 
 unfoldable pub records_between : ℕ → List ℕ → ℕ → ℕ → ℕ
 records_between zero bytes at to = 0

@@ -1,6 +1,6 @@
 -- What an action looks up in the network: the tables that it reads, and what it finds there around its nodes.
 -- Assumes nothing.
-use Rattle.std.specs.Prelude.{ℕ, ◌+◌, ◌*◌, ◌<◌, Bool, List, [], eqb, get_or, set, replicate}
+use Rattle.std.specs.Prelude.{ℕ, ◌+◌, ◌*◌, ◌<◌, Bool, List, eqb, get_or, set, replicate}
 use Rattle.laws.specs.Below.{fold_below}
 use Rattle.network.specs.declared.Network.{Network}
 use Rattle.actions.specs.declared.Around.{Around}
@@ -26,10 +26,6 @@ wires nodes rounds parents lanes neighbours children preferred =
       children = children;
       preferred = preferred;
     }
-
--- the wires of an effect: it looks at the directions and the neighbours alone
-abbrev pub hearing : List ℕ → List ℕ → Wires
-hearing lanes neighbours = wires 0 0 [] lanes neighbours [] []
 
 -- the table of directions with link l from a to b: "every direction of every link" has a number, 2 l from a to b and 2 l + 1 back
 unfoldable pub joined : List ℕ → ℕ → ℕ → ℕ → List ℕ

@@ -1,90 +1,49 @@
-// One action on lent arrays: 17 first, then over the wires that the network gives. A method lends the arrays of its state once, for the
-// check and for the action, so that the state is copied in and out and nowhere in between.
+// What an entry point asks: 17 first, then over the wires that the network gives.
 ghost use Rattle.std.specs.Prelude.{◌≡◌};
-ghost use Rattle.synchronizer.specs.After.{state_of};
-ghost use Rattle.synchronizer.specs.Entry.{done, acted, done_of, act_of};
+ghost use Rattle.std.specs.Result.{result_unwrap_or};
+ghost use Rattle.answers.specs.Numbers.{answer_of};
+ghost use Rattle.synchronizer.specs.Entry.{done, acted, ran, done_of, act_of, list_of};
 
-use crate::effect::take;
-use crate::lanes::lanes_of;
-use crate::runner::{Did, turn};
-use crate::valid::in_range;
+use crate::State;
+use crate::runner::Ended;
+use crate::wires::Wires;
 use actions::Kind;
+use answers::Refusal;
 use network::Network;
 
-// An action by its kind.
-pub(crate) fn by_kind(
-    net: Network,
-    counts: &mut [u16; 5120],
-    lens: &mut [u8; 256],
-    sorts: &mut [u8; 512],
-    loads: &mut [u16; 512],
-    slots: &mut [u16; 512],
-    values: &mut [u16; 64],
-    kind: Kind,
-    p: u8,
-    q: u8,
-) -> u8
-    ensures { done result (state_of counts.new lens.new sorts.new loads.new slots.new values.new) ≡ done_of net (state_of counts.old lens.old sorts.old loads.old slots.old values.old) kind p q }
-{
-    if in_range(net, counts, lens, sorts, loads, slots, values) {
-        let lanes = lanes_of(&net.lowers, &net.uppers, net.links);
-        return take(
-            net.nodes,
-            net.rounds,
-            &net.parents,
-            &lanes,
-            &net.neighbours,
-            &net.children,
-            &net.preferred,
-            counts,
-            lens,
-            sorts,
-            loads,
-            slots,
-            values,
-            kind,
-            p,
-            q,
-        );
+impl State {
+    // An action by its kind.
+    pub(crate) fn by_kind(&mut self, net: &Network, kind: Kind, p: u8, q: u8) -> Result<(), Refusal>
+        ensures { done (answer_of result) self.new ≡ done_of net.now self.old kind p q }
+    {
+        if !self.in_range(net) {
+            return Err(Refusal::NotInRange);
+        }
+        self.take(&Wires::of(net), kind, p, q)
     }
-    17
-}
 
-// One action from bytes.
-pub(crate) fn by_record(
-    net: Network,
-    counts: &mut [u16; 5120],
-    lens: &mut [u8; 256],
-    sorts: &mut [u8; 512],
-    loads: &mut [u16; 512],
-    slots: &mut [u16; 512],
-    values: &mut [u16; 64],
-    bytes: &[u8],
-) -> Did
-    ensures { acted result.answer result.used (state_of counts.new lens.new sorts.new loads.new slots.new values.new) ≡ act_of net (state_of counts.old lens.old sorts.old loads.old slots.old values.old) bytes.now }
-{
-    if in_range(net, counts, lens, sorts, loads, slots, values) {
-        let lanes = lanes_of(&net.lowers, &net.uppers, net.links);
-        return turn(
-            bytes,
-            0,
-            net.nodes,
-            net.rounds,
-            &net.parents,
-            &lanes,
-            &net.neighbours,
-            &net.children,
-            &net.preferred,
-            counts,
-            lens,
-            sorts,
-            loads,
-            slots,
-            values,
-        );
+    // One action from bytes, and how many it has.
+    pub(crate) fn by_record(&mut self, net: &Network, bytes: &[u8]) -> Result<usize, Refusal>
+        ensures { acted (answer_of result) (result_unwrap_or result 0) self.new ≡ act_of net.now self.old bytes.now }
+    {
+        if !self.in_range(net) {
+            return Err(Refusal::NotInRange);
+        }
+        self.turn(&Wires::of(net), bytes, 0)
     }
-    Did {
-        answer: 17,
-        used: 0,
+
+    // A list of actions from bytes.
+    pub(crate) fn by_list(&mut self, net: &Network, bytes: &[u8]) -> Ended
+        ensures { ran (answer_of result.outcome) result.place result.taken self.new ≡ list_of net.now self.old bytes.now }
+    {
+        if !self.in_range(net) {
+            let outcome = Err(Refusal::NotInRange);
+            return Ended {
+                outcome,
+                place: 0,
+                taken: 0,
+            };
+        }
+        self.go_through(&Wires::of(net), bytes)
     }
 }

@@ -3,39 +3,37 @@
 
 mod effect;
 mod entry;
-mod lanes;
 mod runner;
 mod test;
 mod valid;
+mod wires;
 
 ghost use Rattle.std.specs.Prelude.{◌≡◌};
+ghost use Rattle.answers.specs.Numbers.{answer_of};
 ghost use Rattle.actions.specs.declared.Kind.TheVariants.{Output, PacketSent, PacketDelivered, AckSent, AckDelivered, Ok, SubtreeOkSent, SubtreeOkDelivered, ClusterOk, DownSent, DownDelivered, PreferredSent, PreferredDelivered, UpSent, UpDelivered, ClusterGo, SubtreeGoSent, SubtreeGoDelivered, Go, Input};
 ghost use Rattle.synchronizer.specs.Entry.{done_of, act_of, list_of};
 ghost use Rattle.synchronizer.specs.Valid.{Sized};
 
-use crate::entry::{by_kind, by_record};
-use crate::lanes::lanes_of;
-use crate::runner::go_through;
-use crate::valid::in_range;
 use actions::Kind;
+use answers::Refusal;
 use network::Network;
+use queue::Queues;
 
 // What the bench holds between actions.
 #[derive(Clone, Copy)]
 pub struct State {
     // how often each action was taken: a row of 256 for each kind, by node or by direction
     pub counts: [u16; 5120],
-    // for each direction how many messages wait, and for each of its two places the sort (0 none, 1 packet, 2 ack) and the value carried
-    pub lens: [u8; 256],
-    pub sorts: [u8; 512],
-    pub loads: [u16; 512],
+    // the messages that wait, by direction
+    pub queues: Queues,
     // for each direction the last packet heard of an even and of an odd round
     pub slots: [u16; 512],
     // each node's value
     pub values: [u16; 64],
 }
 
-// An action's answer, and the state that follows it. The state stands first: no byte is left over between the two, and a state that is handed
+// An action's answer, and the state that follows it: a number and no Result, since a refusal hands the state back too, and `Judged` of guarantees/
+// speaks of `answer`. The state stands first: no byte is left over between the two, and a state that is handed
 // on is copied as one.
 #[derive(Clone, Copy)]
 pub struct Done {
@@ -60,42 +58,30 @@ pub struct Ran {
     pub state: State,
 }
 
+// 0 for what is taken, else the number of its refusal.
+fn number<T: Copy>(outcome: Result<T, Refusal>) -> u8
+    ensures { result ≡ answer_of outcome }
+{
+    match outcome {
+        Ok(_) => 0,
+        Err(refusal) => refusal.number(),
+    }
+}
+
 impl State {
-    // An action by its kind: the answer and the state after on arrays that are lent.
-    fn action(self, net: Network, kind: Kind, p: u8, q: u8) -> Done
+    // An action by its kind: the answer, and the state after it.
+    fn action(mut self, net: Network, kind: Kind, p: u8, q: u8) -> Done
         ensures answer { result ≡ done_of net self kind p q }
         ensures sized { Sized self }
     {
-        let mut counts = self.counts;
-        let mut lens = self.lens;
-        let mut sorts = self.sorts;
-        let mut loads = self.loads;
-        let mut slots = self.slots;
-        let mut values = self.values;
-        let answer = by_kind(
-            net,
-            &mut counts,
-            &mut lens,
-            &mut sorts,
-            &mut loads,
-            &mut slots,
-            &mut values,
-            kind,
-            p,
-            q,
-        );
+        let answer = number(self.by_kind(&net, kind, p, q));
         Done {
+            state: self,
             answer,
-            state: State {
-                counts,
-                lens,
-                sorts,
-                loads,
-                slots,
-                values,
-            },
         }
     }
+
+    // Document 01 fixes the twenty methods, each by its name, with a state handed in and handed back.
 
     // 16, "i ≤ rounds; inputs of p at least i − 1".
     pub fn output(self, net: Network, p: u8) -> Done
@@ -258,94 +244,28 @@ impl State {
     }
 
     // One action from bytes: 17, then the record's answer. Bytes after the record are not read.
-    pub fn act(self, net: Network, bytes: &[u8]) -> Acted
+    pub fn act(mut self, net: Network, bytes: &[u8]) -> Acted
         ensures answer { result ≡ act_of net self bytes.now }
         ensures sized { Sized self }
     {
-        let mut counts = self.counts;
-        let mut lens = self.lens;
-        let mut sorts = self.sorts;
-        let mut loads = self.loads;
-        let mut slots = self.slots;
-        let mut values = self.values;
-        let did = by_record(
-            net,
-            &mut counts,
-            &mut lens,
-            &mut sorts,
-            &mut loads,
-            &mut slots,
-            &mut values,
-            bytes,
-        );
+        let read = self.by_record(&net, bytes);
         Acted {
-            answer: did.answer,
-            place: did.used,
-            state: State {
-                counts,
-                lens,
-                sorts,
-                loads,
-                slots,
-                values,
-            },
+            answer: number(read),
+            place: read.unwrap_or(0),
+            state: self,
         }
     }
 
-    // A list of actions from bytes: 17 once, then one record after the other up to the first refusal. The arrays are lent here, so that a turn
-    // reaches them where they stand.
-    pub fn run(self, net: Network, bytes: &[u8]) -> Ran
+    // A list of actions from bytes: 17 once, then one record after the other up to the first refusal. A turn reaches the state where it stands.
+    pub fn run(mut self, net: Network, bytes: &[u8]) -> Ran
         ensures answer { result ≡ list_of net self bytes.now }
         ensures sized { Sized self }
     {
-        let mut counts = self.counts;
-        let mut lens = self.lens;
-        let mut sorts = self.sorts;
-        let mut loads = self.loads;
-        let mut slots = self.slots;
-        let mut values = self.values;
-        if in_range(net, &counts, &lens, &sorts, &loads, &slots, &values) {
-            let parents = net.parents;
-            let lowers = net.lowers;
-            let uppers = net.uppers;
-            let neighbours = net.neighbours;
-            let children = net.children;
-            let preferred = net.preferred;
-            let lanes = lanes_of(&lowers, &uppers, net.links);
-            let ended = go_through(
-                bytes,
-                net.nodes,
-                net.rounds,
-                &parents,
-                &lanes,
-                &neighbours,
-                &children,
-                &preferred,
-                &mut counts,
-                &mut lens,
-                &mut sorts,
-                &mut loads,
-                &mut slots,
-                &mut values,
-            );
-            return Ran {
-                answer: ended.answer,
-                place: ended.place,
-                taken: ended.taken,
-                state: State {
-                    counts,
-                    lens,
-                    sorts,
-                    loads,
-                    slots,
-                    values,
-                },
-            };
-        }
+        let ended = self.by_list(&net, bytes);
         Ran {
-            answer: 17,
-            place: 0,
-            taken: 0,
+            answer: number(ended.outcome),
+            place: ended.place,
+            taken: ended.taken,
             state: self,
         }
     }

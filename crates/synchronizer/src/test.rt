@@ -1,479 +1,237 @@
 // The test: which answer an action gets. Nothing here changes a state.
-ghost use Rattle.std.specs.Prelude.{◌≡◌, true, not, ◌<◌, ◌≤◌, ltb, get_or};
+ghost use Rattle.std.specs.Prelude.{◌≡◌, true, ◌<◌, IfOk, get_or};
 ghost use Rattle.laws.specs.Choice.{if_b, both};
-ghost use Rattle.nodeset.specs.Marks.{member};
+ghost use Rattle.answers.specs.Numbers.{answer_of};
 ghost use Rattle.actions.specs.Kinds.{count, count_in};
-ghost use Rattle.actions.specs.Table.{knows_by, may_go_by};
-ghost use Rattle.actions.specs.declared.Kind.TheVariants.{Output, PacketSent, PacketDelivered, AckSent, AckDelivered, Ok, SubtreeOkSent, SubtreeOkDelivered, ClusterOk, DownSent, PreferredSent, PreferredDelivered, UpSent, UpDelivered, ClusterGo, SubtreeGoSent, Go, Input};
+ghost use Rattle.actions.specs.Table.{own_of};
+ghost use Rattle.actions.specs.declared.Kind.TheVariants.{Output, AckDelivered, SubtreeOkDelivered, UpDelivered, PreferredDelivered, Input};
 ghost use Rattle.queue.specs.Queue.{head_of, packet_first, ack_first, room_answer};
-ghost use Rattle.synchronizer.specs.Wires.{Below64, wires, lane_in, is_root};
 ghost use Rattle.counts.specs.Counts.{children_have};
-ghost use Rattle.synchronizer.specs.Answer.{count_answer, senders_have};
-ghost use Rattle.synchronizer.specs.Shown.{Shows, RowShows, TestShows, seen};
+ghost use Rattle.synchronizer.specs.Wires.{lane_in, is_root};
+ghost use Rattle.synchronizer.specs.Answer.{stands_in, count_answer, senders_have};
+ghost use Rattle.synchronizer.specs.Shown.{Shows, RowShows, TestShows};
 
-use crate::lanes::{is_root, lane, near, parent_knows, parent_may_go};
-use actions::{Counter, Kind, knows, may_go};
+use crate::State;
+use crate::wires::Wires;
+use actions::Kind::{
+    AckDelivered, AckSent, ClusterGo, ClusterOk, DownDelivered, DownSent, Go, Input, Output,
+    PacketDelivered, PacketSent, PreferredDelivered, PreferredSent, SubtreeGoDelivered,
+    SubtreeGoSent, SubtreeOkDelivered, SubtreeOkSent, UpDelivered, UpSent,
+};
+use actions::Place::{Child, Link, Node, PreferredLink, Root};
+use actions::{Counter, Kind, Place, cell, own_of};
+use answers::Refusal;
 use counts::{above, below, children_have};
 use nodeset::NodeSet;
-use queue::{ack_first, packet_first, room};
 
-// An answer; and where it is 0, at which node or direction the action's own count stands.
+// An action that is asked for, and of what.
 #[derive(Clone, Copy)]
-pub struct Shown {
-    pub answer: u8,
-    pub sub: u8,
-}
-
-// A row whose nodes stand as it asks.
-fn node(counts: &[u16; 5120], kind: Kind, x: u8, need: Counter, rest: u8) -> Shown
-    ensures { RowShows counts.now kind x true need rest result }
-{
-    let own = actions::cell(Counter(kind, x));
-    let other = actions::cell(need);
-    if below(counts[own], counts[other]) {
-        return Shown {
-            answer: rest,
-            sub: x,
-        };
-    }
-    Shown { answer: 16, sub: 0 }
-}
-
-// "A root where a parent is needed" is 14.
-fn child(
-    parents: &[u8; 64],
-    counts: &[u16; 5120],
-    kind: Kind,
-    p: u8,
-    need: Counter,
-    rest: u8,
-) -> Shown
-    requires { p < 64 }
-    ensures { RowShows counts.now kind p (not (is_root parents.now p)) need rest result }
-{
-    if is_root(parents, p) {
-        return Shown { answer: 14, sub: 0 };
-    }
-    node(counts, kind, p, need, rest)
-}
-
-// "No root for 24, 31" is 14.
-fn root(
-    parents: &[u8; 64],
-    counts: &[u16; 5120],
-    kind: Kind,
-    p: u8,
-    need: Counter,
-    rest: u8,
-) -> Shown
-    requires { p < 64 }
-    ensures { RowShows counts.now kind p (is_root parents.now p) need rest result }
-{
-    if is_root(parents, p) {
-        return node(counts, kind, p, need, rest);
-    }
-    Shown { answer: 14, sub: 0 }
-}
-
-// "No such link, link not preferred" is 14: q is in p's set of neighbours, or of preferred ones.
-fn link(
-    sets: &[u64; 64],
-    counts: &[u16; 5120],
+pub struct Asked<'a> {
+    state: &'a State,
+    wires: &'a Wires,
     kind: Kind,
     p: u8,
     q: u8,
-    d: u8,
-    need: Counter,
-    rest: u8,
-) -> Shown
-    requires { p < 64 }
-    ensures { RowShows counts.now kind d (member (get_or sets.now p 0) q) need rest result }
-{
-    if near(sets, p, q) {
-        return node(counts, kind, d, need, rest);
-    }
-    Shown { answer: 14, sub: 0 }
-}
-
-// The word came to p from every node in the set.
-fn senders_have(
-    counts: &[u16; 5120],
-    lanes: &[u8; 4096],
-    word: Kind,
-    p: u8,
-    n: u16,
-    set: NodeSet,
-) -> bool
-    requires { p < 64 }
-    ensures { result ≡ senders_have counts.now lanes.now word p n set.marks }
-{
-    let mut rest = set;
-    while 0 < rest.marks {
-        let q = rest.lowest() as u8;
-        if above(counts, n, Counter(word, lane(lanes, q, p))) {
-            let others = rest.without_lowest();
-            rest = others;
-        } else {
-            return false;
-        }
-    }
-    true
-}
-
-// The word came to p from every child, as often as p is about to take its own.
-fn children_told(counts: &[u16; 5120], children: &[u64; 64], own: Kind, word: Kind, p: u8) -> bool
-    requires { p < 64 }
-    ensures { result ≡ children_have counts.now word (count_in counts.now (count own p)) (get_or children.now p 0) }
-{
-    let at = actions::cell(Counter(own, p));
-    let marks = children[p as usize];
-    children_have(counts, word, counts[at], NodeSet { marks })
-}
-
-// The word came to p from every node of its set, as often as p is about to take its own.
-fn senders_told(
-    counts: &[u16; 5120],
-    lanes: &[u8; 4096],
-    sets: &[u64; 64],
-    own: Kind,
-    word: Kind,
-    p: u8,
-) -> bool
-    requires { p < 64 }
-    ensures { result ≡ senders_have counts.now lanes.now word p (count_in counts.now (count own p)) (get_or sets.now p 0) }
-{
-    let at = actions::cell(Counter(own, p));
-    let marks = sets[p as usize];
-    senders_have(counts, lanes, word, p, counts[at], NodeSet { marks })
-}
-
-// "Up delivered from every child, preferred word delivered to p on each of its preferred links."
-fn all_told(
-    counts: &[u16; 5120],
-    lanes: &[u8; 4096],
-    children: &[u64; 64],
-    preferred: &[u64; 64],
-    own: Kind,
-    p: u8,
-) -> bool
-    requires { p < 64 }
-    ensures { result ≡ both (children_have counts.now UpDelivered (count_in counts.now (count own p)) (get_or children.now p 0)) (senders_have counts.now lanes.now PreferredDelivered p (count_in counts.now (count own p)) (get_or preferred.now p 0)) }
-{
-    if children_told(counts, children, own, Kind::UpDelivered, p) {
-        return senders_told(counts, lanes, preferred, own, Kind::PreferredDelivered, p);
-    }
-    false
+    // both have a place in the tables
+    ghost seated: { (p < 64) × (q < 64) },
 }
 
 // 16 where a word is missing.
-fn unless(told: bool) -> u8
-    ensures { result ≡ if_b told 0 16 }
+#[tactic(auto, using(laws::proofs::Choice::picks))]
+fn unless(told: bool) -> Result<(), Refusal>
+    ensures { answer_of result ≡ if_b told 0 16 }
 {
     if told {
-        return 0;
+        Ok(())
+    } else {
+        Err(Refusal::NeedMissing)
     }
-    16
 }
 
-// "i ≤ rounds; inputs of p at least i − 1"
-fn output(counts: &[u16; 5120], rounds: u16, p: u8) -> Shown
-    ensures { Shows counts.now Output p (count_answer true rounds (count_in counts.now (count Output p)) (count_in counts.now (count Input p))) result }
-{
-    let own = actions::cell(Counter(Kind::Output, p));
-    let inputs = actions::cell(Counter(Kind::Input, p));
-    if below(counts[own], rounds) {
-        if counts[inputs] < counts[own] {
-            return Shown { answer: 16, sub: 0 };
+impl Asked<'_> {
+    // 14 where not: the nodes stand as the row asks.
+    #[tactic(auto, unfolding(crate::specs::Answer::stands_in))]
+    fn stands(&self, place: Place) -> bool
+        ensures { result ≡ stands_in place (get_or self.now.wires.now.neighbours self.now.p 0) (get_or self.now.wires.now.preferred self.now.p 0) self.now.q (is_root self.now.wires.now.parents self.now.p) }
+    {
+        match place {
+            Node => true,
+            Link => self.wires.near(self.p, self.q),
+            PreferredLink => self.wires.prefers(self.p, self.q),
+            Child => !self.wires.is_root(self.p),
+            Root => self.wires.is_root(self.p),
         }
-        return Shown { answer: 0, sub: p };
     }
-    Shown { answer: 15, sub: 0 }
-}
 
-// "p has output"
-fn packet_sent(
-    neighbours: &[u64; 64],
-    lanes: &[u8; 4096],
-    counts: &[u16; 5120],
-    lens: &[u8; 256],
-    p: u8,
-    q: u8,
-) -> Shown
-    requires { (p < 64) × (q < 64) }
-    ensures { RowShows counts.now PacketSent (lane_in lanes.now p q) (member (get_or neighbours.now p 0) q) (count Output p) (room_answer (get_or lens.now (lane_in lanes.now p q) 0)) result }
-{
-    let d = lane(lanes, p, q);
-    let kind = Kind::PacketSent;
-    let need = Counter(Kind::Output, p);
-    link(neighbours, counts, kind, p, q, d, need, room(lens, d))
-}
-
-// "sent; a packet is first on p to q"
-fn packet_delivered(
-    neighbours: &[u64; 64],
-    lanes: &[u8; 4096],
-    counts: &[u16; 5120],
-    lens: &[u8; 256],
-    sorts: &[u8; 512],
-    loads: &[u16; 512],
-    p: u8,
-    q: u8,
-) -> Shown
-    requires { (p < 64) × (q < 64) }
-    ensures { RowShows counts.now PacketDelivered (lane_in lanes.now p q) (member (get_or neighbours.now p 0) q) (count PacketSent (lane_in lanes.now p q)) (packet_first (head_of lens.now sorts.now loads.now (lane_in lanes.now p q))) result }
-{
-    let d = lane(lanes, p, q);
-    let kind = Kind::PacketDelivered;
-    let need = Counter(Kind::PacketSent, d);
-    let rest = packet_first(lens, sorts, loads, d);
-    link(neighbours, counts, kind, p, q, d, need, rest)
-}
-
-// "packet q to p delivered"
-fn ack_sent(
-    neighbours: &[u64; 64],
-    lanes: &[u8; 4096],
-    counts: &[u16; 5120],
-    lens: &[u8; 256],
-    p: u8,
-    q: u8,
-) -> Shown
-    requires { (p < 64) × (q < 64) }
-    ensures { RowShows counts.now AckSent (lane_in lanes.now p q) (member (get_or neighbours.now p 0) q) (count PacketDelivered (lane_in lanes.now q p)) (room_answer (get_or lens.now (lane_in lanes.now p q) 0)) result }
-{
-    let d = lane(lanes, p, q);
-    let kind = Kind::AckSent;
-    let need = Counter(Kind::PacketDelivered, lane(lanes, q, p));
-    link(neighbours, counts, kind, p, q, d, need, room(lens, d))
-}
-
-// "sent; an ack is first on p to q"
-fn ack_delivered(
-    neighbours: &[u64; 64],
-    lanes: &[u8; 4096],
-    counts: &[u16; 5120],
-    lens: &[u8; 256],
-    sorts: &[u8; 512],
-    loads: &[u16; 512],
-    p: u8,
-    q: u8,
-) -> Shown
-    requires { (p < 64) × (q < 64) }
-    ensures { RowShows counts.now AckDelivered (lane_in lanes.now p q) (member (get_or neighbours.now p 0) q) (count AckSent (lane_in lanes.now p q)) (ack_first (head_of lens.now sorts.now loads.now (lane_in lanes.now p q))) result }
-{
-    let d = lane(lanes, p, q);
-    let kind = Kind::AckDelivered;
-    let need = Counter(Kind::AckSent, d);
-    let rest = ack_first(lens, sorts, loads, d);
-    link(neighbours, counts, kind, p, q, d, need, rest)
-}
-
-// "output; ack delivered from every neighbour"
-fn ok(neighbours: &[u64; 64], lanes: &[u8; 4096], counts: &[u16; 5120], p: u8) -> Shown
-    requires { p < 64 }
-    ensures { RowShows counts.now Ok p true (count Output p) (if_b (senders_have counts.now lanes.now AckDelivered p (count_in counts.now (count Ok p)) (get_or neighbours.now p 0)) 0 16) result }
-{
-    let told = senders_told(counts, lanes, neighbours, Kind::Ok, Kind::AckDelivered, p);
-    node(counts, Kind::Ok, p, Counter(Kind::Output, p), unless(told))
-}
-
-// "p has ok, and subtree ok delivered from every child"
-fn subtree_ok_sent(parents: &[u8; 64], children: &[u64; 64], counts: &[u16; 5120], p: u8) -> Shown
-    requires { p < 64 }
-    ensures { RowShows counts.now SubtreeOkSent p (not (is_root parents.now p)) (count Ok p) (if_b (children_have counts.now SubtreeOkDelivered (count_in counts.now (count SubtreeOkSent p)) (get_or children.now p 0)) 0 16) result }
-{
-    let kind = Kind::SubtreeOkSent;
-    let told = children_told(counts, children, kind, Kind::SubtreeOkDelivered, p);
-    child(parents, counts, kind, p, Counter(Kind::Ok, p), unless(told))
-}
-
-// "same needs as 22"
-fn cluster_ok(parents: &[u8; 64], children: &[u64; 64], counts: &[u16; 5120], p: u8) -> Shown
-    requires { p < 64 }
-    ensures { RowShows counts.now ClusterOk p (is_root parents.now p) (count Ok p) (if_b (children_have counts.now SubtreeOkDelivered (count_in counts.now (count ClusterOk p)) (get_or children.now p 0)) 0 16) result }
-{
-    let kind = Kind::ClusterOk;
-    let told = children_told(counts, children, kind, Kind::SubtreeOkDelivered, p);
-    root(parents, counts, kind, p, Counter(Kind::Ok, p), unless(told))
-}
-
-// A word along the tree that was sent is delivered.
-fn delivered(parents: &[u8; 64], counts: &[u16; 5120], kind: Kind, sent: Kind, p: u8) -> Shown
-    requires { p < 64 }
-    ensures { RowShows counts.now kind p (not (is_root parents.now p)) (count sent p) 0 result }
-{
-    child(parents, counts, kind, p, Counter(sent, p), 0)
-}
-
-// "parent knows"
-fn down_sent(parents: &[u8; 64], counts: &[u16; 5120], p: u8) -> Shown
-    requires { (p < 64) × (get_or parents.now p 0 < 64) }
-    ensures { RowShows counts.now DownSent p (not (is_root parents.now p)) (knows_by (is_root parents.now (get_or parents.now p 0)) (get_or parents.now p 0)) 0 result }
-{
-    child(
-        parents,
-        counts,
-        Kind::DownSent,
-        p,
-        parent_knows(parents, p),
-        0,
-    )
-}
-
-// "parent may go"
-fn subtree_go_sent(parents: &[u8; 64], counts: &[u16; 5120], p: u8) -> Shown
-    requires { (p < 64) × (get_or parents.now p 0 < 64) }
-    ensures { RowShows counts.now SubtreeGoSent p (not (is_root parents.now p)) (may_go_by (is_root parents.now (get_or parents.now p 0)) (get_or parents.now p 0)) 0 result }
-{
-    child(
-        parents,
-        counts,
-        Kind::SubtreeGoSent,
-        p,
-        parent_may_go(parents, p),
-        0,
-    )
-}
-
-// "p knows"
-fn preferred_sent(
-    preferred: &[u64; 64],
-    lanes: &[u8; 4096],
-    parents: &[u8; 64],
-    counts: &[u16; 5120],
-    p: u8,
-    q: u8,
-) -> Shown
-    requires { (p < 64) × (q < 64) }
-    ensures { RowShows counts.now PreferredSent (lane_in lanes.now p q) (member (get_or preferred.now p 0) q) (knows_by (is_root parents.now p) p) 0 result }
-{
-    let d = lane(lanes, p, q);
-    let need = knows(is_root(parents, p), p);
-    link(preferred, counts, Kind::PreferredSent, p, q, d, need, 0)
-}
-
-// "sent"
-fn preferred_delivered(
-    preferred: &[u64; 64],
-    lanes: &[u8; 4096],
-    counts: &[u16; 5120],
-    p: u8,
-    q: u8,
-) -> Shown
-    requires { (p < 64) × (q < 64) }
-    ensures { RowShows counts.now PreferredDelivered (lane_in lanes.now p q) (member (get_or preferred.now p 0) q) (count PreferredSent (lane_in lanes.now p q)) 0 result }
-{
-    let d = lane(lanes, p, q);
-    let need = Counter(Kind::PreferredSent, d);
-    link(
-        preferred,
-        counts,
-        Kind::PreferredDelivered,
-        p,
-        q,
-        d,
-        need,
-        0,
-    )
-}
-
-// "p knows, up delivered from every child, preferred word delivered to p on each of its preferred links"
-fn up_sent(
-    parents: &[u8; 64],
-    lanes: &[u8; 4096],
-    children: &[u64; 64],
-    preferred: &[u64; 64],
-    counts: &[u16; 5120],
-    p: u8,
-) -> Shown
-    requires { p < 64 }
-    ensures { RowShows counts.now UpSent p (not (is_root parents.now p)) (knows_by (is_root parents.now p) p) (if_b (both (children_have counts.now UpDelivered (count_in counts.now (count UpSent p)) (get_or children.now p 0)) (senders_have counts.now lanes.now PreferredDelivered p (count_in counts.now (count UpSent p)) (get_or preferred.now p 0))) 0 16) result }
-{
-    let need = knows(is_root(parents, p), p);
-    let told = all_told(counts, lanes, children, preferred, Kind::UpSent, p);
-    child(parents, counts, Kind::UpSent, p, need, unless(told))
-}
-
-// "same needs as 29"
-fn cluster_go(
-    parents: &[u8; 64],
-    lanes: &[u8; 4096],
-    children: &[u64; 64],
-    preferred: &[u64; 64],
-    counts: &[u16; 5120],
-    p: u8,
-) -> Shown
-    requires { p < 64 }
-    ensures { RowShows counts.now ClusterGo p (is_root parents.now p) (knows_by (is_root parents.now p) p) (if_b (both (children_have counts.now UpDelivered (count_in counts.now (count ClusterGo p)) (get_or children.now p 0)) (senders_have counts.now lanes.now PreferredDelivered p (count_in counts.now (count ClusterGo p)) (get_or preferred.now p 0))) 0 16) result }
-{
-    let need = knows(is_root(parents, p), p);
-    let told = all_told(counts, lanes, children, preferred, Kind::ClusterGo, p);
-    root(parents, counts, Kind::ClusterGo, p, need, unless(told))
-}
-
-// "p may go"
-fn go(parents: &[u8; 64], counts: &[u16; 5120], p: u8) -> Shown
-    requires { p < 64 }
-    ensures { RowShows counts.now Go p true (may_go_by (is_root parents.now p) p) 0 result }
-{
-    node(counts, Kind::Go, p, may_go(is_root(parents, p), p), 0)
-}
-
-// "p has go"
-fn input(counts: &[u16; 5120], p: u8) -> Shown
-    ensures { RowShows counts.now Input p true (count Go p) 0 result }
-{
-    node(counts, Kind::Input, p, Counter(Kind::Go, p), 0)
-}
-
-// Document 01's table, row by row: the answer to an action, and where it is 0 its own count.
-pub(crate) fn test(
-    nodes: usize,
-    rounds: u16,
-    parents: &[u8; 64],
-    lanes: &[u8; 4096],
-    neighbours: &[u64; 64],
-    children: &[u64; 64],
-    preferred: &[u64; 64],
-    counts: &[u16; 5120],
-    lens: &[u8; 256],
-    sorts: &[u8; 512],
-    loads: &[u16; 512],
-    kind: Kind,
-    p: u8,
-    q: u8,
-) -> Shown
-    requires { (nodes ≤ 64) × Below64 parents.now nodes }
-    ensures { TestShows (wires nodes rounds parents.now lanes.now neighbours.now children.now preferred.now) (seen counts.now lens.now sorts.now loads.now) kind p q result }
-{
-    if nodes <= p as usize {
-        return Shown { answer: 13, sub: 0 };
+    // A count at p, one along the direction from p to q, and one along the direction back.
+    fn at(&self, kind: Kind) -> Counter
+        ensures { result ≡ count kind self.now.p }
+    {
+        Counter(kind, self.p)
     }
-    if nodes <= q as usize {
-        return Shown { answer: 13, sub: 0 };
+
+    fn along(&self, kind: Kind) -> Counter
+        ensures { result ≡ count kind (lane_in self.now.wires.now.lanes self.now.p self.now.q) }
+    {
+        Counter(kind, self.lane())
     }
-    match kind {
-        Kind::Output => output(counts, rounds, p),
-        Kind::PacketSent => packet_sent(neighbours, lanes, counts, lens, p, q),
-        Kind::PacketDelivered => {
-            packet_delivered(neighbours, lanes, counts, lens, sorts, loads, p, q)
+
+    fn back(&self, kind: Kind) -> Counter
+        ensures { result ≡ count kind (lane_in self.now.wires.now.lanes self.now.q self.now.p) }
+    {
+        Counter(kind, self.wires.lane(self.q, self.p))
+    }
+
+    // The direction from p to q, and what its queue says.
+    fn lane(&self) -> u8
+        ensures { result ≡ lane_in self.now.wires.now.lanes self.now.p self.now.q }
+    {
+        self.wires.lane(self.p, self.q)
+    }
+
+    fn room(&self) -> Result<(), Refusal>
+        ensures { answer_of result ≡ room_answer (get_or self.now.state.now.queues.lens (lane_in self.now.wires.now.lanes self.now.p self.now.q) 0) }
+    {
+        self.state.queues.room(self.lane())
+    }
+
+    fn packet_first(&self) -> Result<(), Refusal>
+        ensures { answer_of result ≡ packet_first (head_of self.now.state.now.queues.lens self.now.state.now.queues.sorts self.now.state.now.queues.loads (lane_in self.now.wires.now.lanes self.now.p self.now.q)) }
+    {
+        self.state.queues.packet_first(self.lane())
+    }
+
+    fn ack_first(&self) -> Result<(), Refusal>
+        ensures { answer_of result ≡ ack_first (head_of self.now.state.now.queues.lens self.now.state.now.queues.sorts self.now.state.now.queues.loads (lane_in self.now.wires.now.lanes self.now.p self.now.q)) }
+    {
+        self.state.queues.ack_first(self.lane())
+    }
+
+    // How often p took the action: it is about to take it once more.
+    fn taken(&self) -> u16
+        ensures { result ≡ count_in self.now.state.now.counts (count self.now.kind self.now.p) }
+    {
+        self.state.counts[cell(self.at(self.kind))]
+    }
+
+    // The word came to p from every node in the set.
+    fn senders_have(&self, word: Kind, set: NodeSet) -> bool
+        ensures { result ≡ senders_have self.now.state.now.counts self.now.wires.now.lanes word self.now.p (count_in self.now.state.now.counts (count self.now.kind self.now.p)) set.marks }
+    {
+        let (counts, n) = (&self.state.counts, self.taken());
+        set.members().all(|q| above(counts, n, Counter(word, self.wires.lane(q as u8, self.p))))
+    }
+
+    // The word came to p from every child.
+    fn children_have(&self, word: Kind) -> bool
+        ensures { result ≡ children_have self.now.state.now.counts word (count_in self.now.state.now.counts (count self.now.kind self.now.p)) (get_or self.now.wires.now.children self.now.p 0) }
+    {
+        let set = self.wires.children(self.p);
+        children_have(&self.state.counts, word, self.taken(), set)
+    }
+
+    // "Ack delivered from every neighbour."
+    fn acks_told(&self) -> Result<(), Refusal>
+        ensures { answer_of result ≡ if_b (senders_have self.now.state.now.counts self.now.wires.now.lanes AckDelivered self.now.p (count_in self.now.state.now.counts (count self.now.kind self.now.p)) (get_or self.now.wires.now.neighbours self.now.p 0)) 0 16 }
+    {
+        unless(self.senders_have(AckDelivered, self.wires.neighbours(self.p)))
+    }
+
+    // "Subtree ok delivered from every child."
+    fn oks_told(&self) -> Result<(), Refusal>
+        ensures { answer_of result ≡ if_b (children_have self.now.state.now.counts SubtreeOkDelivered (count_in self.now.state.now.counts (count self.now.kind self.now.p)) (get_or self.now.wires.now.children self.now.p 0)) 0 16 }
+    {
+        unless(self.children_have(SubtreeOkDelivered))
+    }
+
+    // "Up delivered from every child, preferred word delivered to p on each of its preferred links."
+    fn ups_told(&self) -> Result<(), Refusal>
+        ensures { answer_of result ≡ if_b (both (children_have self.now.state.now.counts UpDelivered (count_in self.now.state.now.counts (count self.now.kind self.now.p)) (get_or self.now.wires.now.children self.now.p 0)) (senders_have self.now.state.now.counts self.now.wires.now.lanes PreferredDelivered self.now.p (count_in self.now.state.now.counts (count self.now.kind self.now.p)) (get_or self.now.wires.now.preferred self.now.p 0))) 0 16 }
+    {
+        let links = self.wires.preferred(self.p);
+        unless(self.children_have(UpDelivered) && self.senders_have(PreferredDelivered, links))
+    }
+
+    // "i ≤ rounds; inputs of p at least i − 1"
+    #[tactic(auto, using(laws::proofs::Choice::picks), unfolding(crate::specs::Answer::count_answer))]
+    fn may_begin(&self) -> Result<u8, Refusal>
+        ensures { Shows self.now.state.now.counts Output self.now.p (count_answer true self.now.wires.now.rounds (count_in self.now.state.now.counts (count Output self.now.p)) (count_in self.now.state.now.counts (count Input self.now.p))) result }
+    {
+        let outputs = self.state.counts[cell(self.at(Output))];
+        let inputs = self.state.counts[cell(self.at(Input))];
+        if !below(outputs, self.wires.rounds()) {
+            return Err(Refusal::LastRoundOver);
         }
-        Kind::AckSent => ack_sent(neighbours, lanes, counts, lens, p, q),
-        Kind::AckDelivered => ack_delivered(neighbours, lanes, counts, lens, sorts, loads, p, q),
-        Kind::Ok => ok(neighbours, lanes, counts, p),
-        Kind::SubtreeOkSent => subtree_ok_sent(parents, children, counts, p),
-        Kind::SubtreeOkDelivered => delivered(parents, counts, kind, Kind::SubtreeOkSent, p),
-        Kind::ClusterOk => cluster_ok(parents, children, counts, p),
-        Kind::DownSent => down_sent(parents, counts, p),
-        Kind::DownDelivered => delivered(parents, counts, kind, Kind::DownSent, p),
-        Kind::PreferredSent => preferred_sent(preferred, lanes, parents, counts, p, q),
-        Kind::PreferredDelivered => preferred_delivered(preferred, lanes, counts, p, q),
-        Kind::UpSent => up_sent(parents, lanes, children, preferred, counts, p),
-        Kind::UpDelivered => delivered(parents, counts, kind, Kind::UpSent, p),
-        Kind::ClusterGo => cluster_go(parents, lanes, children, preferred, counts, p),
-        Kind::SubtreeGoSent => subtree_go_sent(parents, counts, p),
-        Kind::SubtreeGoDelivered => delivered(parents, counts, kind, Kind::SubtreeGoSent, p),
-        Kind::Go => go(parents, counts, p),
-        Kind::Input => input(counts, p),
+        if inputs < outputs {
+            return Err(Refusal::NeedMissing);
+        }
+        Ok(self.p)
+    }
+
+    // A row of the table: 14 where the nodes do not stand as it asks, 16 where the count needed is short, then what the rest of it says.
+    // A hint: so each row branches by itself, with no second look at what it came to.
+    #[inline(always)]
+    fn row(&self, place: Place, need: Counter, rest: Result<(), Refusal>) -> Result<u8, Refusal>
+        ensures { RowShows self.now.state.now.counts self.now.kind (own_of place self.now.kind self.now.p (lane_in self.now.wires.now.lanes self.now.p self.now.q)).1 (stands_in place (get_or self.now.wires.now.neighbours self.now.p 0) (get_or self.now.wires.now.preferred self.now.p 0) self.now.q (is_root self.now.wires.now.parents self.now.p)) need (answer_of rest) result }
+    {
+        if !self.stands(place) {
+            return Err(Refusal::NoSuchLink);
+        }
+        let counts = &self.state.counts;
+        let own = own_of(place, self.kind, self.p, self.lane());
+        if !below(counts[cell(own)], counts[cell(need)]) {
+            return Err(Refusal::NeedMissing);
+        }
+        rest?;
+        Ok(own.1)
+    }
+
+    // Document 01's table, row by row, of nodes that are there.
+    fn answer(&self) -> Result<u8, Refusal>
+        requires { (self.now.p < self.now.wires.now.nodes) × (self.now.q < self.now.wires.now.nodes) }
+        ensures { TestShows self.now.wires.now self.now.state.now self.now.kind self.now.p self.now.q result }
+    {
+        match self.kind {
+            Output => self.may_begin(),
+            PacketSent => self.row(Link, self.at(Output), self.room()),
+            PacketDelivered => self.row(Link, self.along(PacketSent), self.packet_first()),
+            AckSent => self.row(Link, self.back(PacketDelivered), self.room()),
+            AckDelivered => self.row(Link, self.along(AckSent), self.ack_first()),
+            Kind::Ok => self.row(Node, self.at(Output), self.acks_told()),
+            SubtreeOkSent => self.row(Child, self.at(Kind::Ok), self.oks_told()),
+            SubtreeOkDelivered => self.row(Child, self.at(SubtreeOkSent), Ok(())),
+            ClusterOk => self.row(Root, self.at(Kind::Ok), self.oks_told()),
+            DownSent => self.row(Child, self.wires.parent_knows(self.p), Ok(())),
+            DownDelivered => self.row(Child, self.at(DownSent), Ok(())),
+            PreferredSent => self.row(PreferredLink, self.wires.knows(self.p), Ok(())),
+            PreferredDelivered => self.row(PreferredLink, self.along(PreferredSent), Ok(())),
+            UpSent => self.row(Child, self.wires.knows(self.p), self.ups_told()),
+            UpDelivered => self.row(Child, self.at(UpSent), Ok(())),
+            ClusterGo => self.row(Root, self.wires.knows(self.p), self.ups_told()),
+            SubtreeGoSent => self.row(Child, self.wires.parent_may_go(self.p), Ok(())),
+            SubtreeGoDelivered => self.row(Child, self.at(SubtreeGoSent), Ok(())),
+            Go => self.row(Node, self.wires.may_go(self.p), Ok(())),
+            Input => self.row(Node, self.at(Go), Ok(())),
+        }
+    }
+}
+
+impl State {
+    // The answer to an action; and of one that may be taken, at which node or direction its own count stands.
+    pub(crate) fn test(&self, wires: &Wires, kind: Kind, p: u8, q: u8) -> Result<u8, Refusal>
+        ensures answer { TestShows wires.now self.now kind p q result }
+        ensures place { IfOk result (λ _. p < 64) }
+    {
+        if !wires.has(p) || !wires.has(q) {
+            return Err(Refusal::NoSuchNode);
+        }
+        Asked {
+            state: self,
+            wires,
+            kind,
+            p,
+            q,
+        }
+        .answer()
     }
 }

@@ -1,77 +1,59 @@
 // Answer 17 over any value of the struct, and the start state.
 ghost use Rattle.std.specs.Prelude.{◌≡◌};
-ghost use Rattle.synchronizer.specs.After.{state_of};
 ghost use Rattle.synchronizer.specs.Entry.{in_range};
 ghost use Rattle.synchronizer.specs.Start.{fresh_with, start_of};
 
 use crate::{Done, State};
+use answers::Refusal;
 use network::Network;
-
-// Not 17: the network and the state are within their ranges.
-pub(crate) fn in_range(
-    net: Network,
-    counts: &[u16; 5120],
-    lens: &[u8; 256],
-    sorts: &[u8; 512],
-    loads: &[u16; 512],
-    slots: &[u16; 512],
-    values: &[u16; 64],
-) -> bool
-    ensures { result ≡ in_range net (state_of counts.now lens.now sorts.now loads.now slots.now values.now) }
-{
-    let nodes = net.nodes;
-    let links = net.links;
-    let rounds = net.rounds;
-    if net.valid() {
-        return ranges::state_fits(
-            nodes as u8,
-            links as u8,
-            rounds,
-            counts,
-            lens,
-            sorts,
-            loads,
-            slots,
-            values,
-        );
-    }
-    false
-}
+use queue::Queues;
+use ranges::state_fits;
 
 // "all counts and slots are 0, queues are empty"
+#[tactic(auto, unfolding(crate::specs::Start::fresh_with))]
 fn fresh(values: [u16; 64]) -> State
     ensures { result ≡ fresh_with values }
 {
-    let counts = [0u16; 5120];
-    let lens = [0u8; 256];
-    let sorts = [0u8; 512];
-    let loads = [0u16; 512];
-    let slots = [0u16; 512];
     State {
-        counts,
-        lens,
-        sorts,
-        loads,
-        slots,
+        counts: [0; 5120],
+        queues: Queues::EMPTY,
+        slots: [0; 512],
         values,
     }
 }
 
 impl State {
+    // Not 17: the network and the state are within their ranges.
+    #[tactic(auto, using(laws::proofs::Choice::picks, network::proofs::Valid::valid_limits), unfolding(crate::specs::Entry::in_range, crate::specs::Valid::valid_state))]
+    pub(crate) fn in_range(&self, net: &Network) -> bool
+        ensures { result ≡ in_range net.now self.now }
+    {
+        net.valid()
+            && state_fits(
+                net.nodes as u8,
+                net.links as u8,
+                net.rounds,
+                &self.counts,
+                &self.queues,
+                &self.slots,
+                &self.values,
+            )
+    }
+
+    #[tactic(auto, using(laws::proofs::Choice::picks), unfolding(crate::specs::Start::start_of))]
     // The start state: "values are the plan's"; "a start state refused by 17 is all zeros".
     pub fn start(net: Network) -> Done
         ensures { result ≡ start_of net }
     {
-        let starts = net.starts;
         if net.valid() {
             return Done {
+                state: fresh(net.starts),
                 answer: 0,
-                state: fresh(starts),
             };
         }
         Done {
-            answer: 17,
-            state: fresh([0u16; 64]),
+            state: fresh([0; 64]),
+            answer: Refusal::NotInRange.number(),
         }
     }
 }

@@ -1,5 +1,0 @@
--- `children_told`: the walk, at the action's own count and p's set.
-use Rattle.synchronizer.proofs.test.children_told.Goals as goal
-
-pub returns : goal.returns
-returns c = rw (← c.cell-at.ensures.is) c.children_have.ensures
