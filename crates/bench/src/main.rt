@@ -10,11 +10,10 @@ use std::process::ExitCode;
 // is then to be taken for an answer.
 fn main(rt: HostRuntime) -> ExitCode {
     let mut buffer = [0u8; report::LONGEST + 1];
-    let given = read_all(&mut rt.stdin(), &mut buffer);
-    if let Some(why) = given.failed {
-        return fail(&rt, "standard input", &why);
-    }
-    let count = given.count;
+    let count = match read_all(&mut rt.stdin(), &mut buffer) {
+        Ok(count) => count,
+        Err(stopped) => return fail(&rt, "standard input", &stopped.why),
+    };
     let mut page = [0u8; report::PAGE];
     let written = report::trial(&buffer[..count], &mut page);
     match rt.stdout().write_all(&page[..written]) {

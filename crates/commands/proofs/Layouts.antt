@@ -10,7 +10,7 @@ use lib.Seq.{length-take-le}
 use Rattle.laws.proofs.Choice.{if_lt_yes, if_lt_no, if_eq_yes, if_eq_no}
 use Rattle.laws.specs.Lists.{Bytes}
 use Rattle.records.specs.Plan.{Plan}
-use Rattle.layout.specs.declared.Laid.{Laid}
+use Rattle.layout.specs.Laid.{Laid}
 use Rattle.layout.specs.Answers.{Holds, LayoutAnswer, by_record, by_10, by_22, by_23, laid_out_lem, Written}
 use Rattle.layout.specs.Layout.{layout_of, laid_in}
 use Rattle.layout.specs.LaidOut.{SameWires}

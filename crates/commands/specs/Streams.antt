@@ -2,7 +2,7 @@
 -- Assumes nothing.
 use Rattle.std.specs.Prelude.{ℕ, ◌≤◌, ◌≡◌, List, [], length, take}
 use Rattle.laws.specs.Choice.{if_lt, if_eq}
-use Rattle.layout.specs.declared.Laid.{Laid}
+use Rattle.layout.specs.Laid.{Laid}
 use Rattle.layout.specs.Layout.{layout_of, laid_in}
 use Rattle.report.specs.Lines.{end_line}
 use Rattle.report.specs.Report.{written_in, filled_by}

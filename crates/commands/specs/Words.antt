@@ -1,6 +1,6 @@
 -- The words of `desk`.
 -- Assumes nothing.
-use Rattle.std.specs.Prelude.{ℕ, Bool, true, false, List, [], ◌∷◌, eqb}
+use Rattle.std.specs.Prelude.{ℕ, Bool, true, false, List, [], ◌∷◌, Option, Some, None, eqb}
 use Rattle.laws.specs.Choice.{if_b, both}
 use Rattle.commands.specs.declared.Word.{Word}
 
@@ -15,5 +15,6 @@ same_bytes (x ∷ xs) (y ∷ ys) = both (eqb x y) (same_bytes xs ys)
 abbrev pub layout_word : List ℕ
 layout_word = 108 ∷ 97 ∷ 121 ∷ 111 ∷ 117 ∷ 116 ∷ []
 
-unfoldable pub word_of : List ℕ → Word
-word_of bytes = if_b (same_bytes bytes layout_word) Word.Layout Word.Unknown
+-- the word that these bytes are, if they are one
+unfoldable pub word_of : List ℕ → Option Word
+word_of bytes = if_b (same_bytes bytes layout_word) (Some Word.Layout) None

@@ -3,27 +3,28 @@
 #![tactic(auto)]
 
 ghost use Rattle.std.specs.Prelude.{◌≡◌};
+ghost use Rattle.answers.specs.Numbers.{number_of};
 ghost use Rattle.commands.specs.Words.{word_of};
 ghost use Rattle.commands.specs.Streams.{Fits, Prints, refused_with, layout_streams};
 
-use records::ACCEPTED;
-use report::{LONGEST, PAGE, TOO_LONG, end_only, whole};
+use answers::{Refusal, Refused};
+use report::{LONGEST, PAGE, end_only, whole};
 
-// The words of `desk`, and what is none of them.
-#[derive(Clone, Copy)]
+// The words of `desk`.
+#[derive(Clone, Copy, Debug, PartialEq, Eq)]
 pub enum Word {
     Layout,
-    Unknown,
 }
 
-// The word that an argument is.
-pub fn word_of(bytes: &[u8]) -> Word
+// The word that an argument is, if it is one.
+pub fn word_of(bytes: &[u8]) -> Option<Word>
     ensures { result ≡ word_of bytes.now }
 {
     if check::same(bytes, b"layout") {
-        return Word::Layout;
+        Some(Word::Layout)
+    } else {
+        None
     }
-    Word::Unknown
 }
 
 // How many bytes go to standard output and how many to standard error: those at the start of the buffers lent for them.
@@ -34,13 +35,13 @@ pub struct Printed {
 }
 
 // "Refused": the end line on standard error, and nothing on standard output.
-fn refused(number: u8, place: usize, output: &mut [u8], errors: &mut [u8]) -> Printed
-    ensures prints { Prints (refused_with number place) output.old errors.old result output.new errors.new }
-    ensures short { Fits 2048 46 (refused_with number place) }
+fn refused(why: Refused, output: &mut [u8], errors: &mut [u8]) -> Printed
+    ensures prints { Prints (refused_with (number_of why.refusal) why.place) output.old errors.old result output.new errors.new }
+    ensures short { Fits 2048 46 (refused_with (number_of why.refusal) why.place) }
 {
     Printed {
         output: 0,
-        errors: end_only(errors, number, place),
+        errors: end_only(errors, why.refusal.number(), why.place),
     }
 }
 
@@ -50,17 +51,16 @@ pub fn layout(bytes: &[u8], depth: usize, output: &mut [u8], errors: &mut [u8]) 
     ensures short { Fits 2048 46 (layout_streams bytes.now depth) }
 {
     if LONGEST < bytes.len() {
-        return refused(TOO_LONG, LONGEST, output, errors);
+        let refusal = Refusal::TooLong;
+        let place = LONGEST;
+        return refused(Refused { refusal, place }, output, errors);
     }
     let mut page = [0u8; PAGE];
-    let laid = layout::layout(bytes, depth, &mut page);
-    let number = laid.number;
-    let place = laid.place;
-    if number != ACCEPTED {
-        return refused(number, place, output, errors);
-    }
-    Printed {
-        output: whole(output, &page[..place]),
-        errors: 0,
+    match layout::layout(bytes, depth, &mut page) {
+        Ok(written) => Printed {
+            output: whole(output, &page[..written]),
+            errors: 0,
+        },
+        Err(why) => refused(why, output, errors),
     }
 }

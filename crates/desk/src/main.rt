@@ -6,7 +6,7 @@ ghost use Rattle.std.specs.Counts.{IsPrefixLen};
 
 use commands::{Word, word_of};
 use input::failure::fail;
-use input::{Number, decimal, read_all};
+use input::{decimal, read_all};
 use report::{LINE, LONGEST, PAGE};
 use std::process::ExitCode;
 use std::rt::Env;
@@ -16,7 +16,8 @@ const LETTERS: usize = 16;
 
 const DIGITS: usize = 20;
 
-// The argument's bytes at the start of the buffer, and how many they are: none, where it is not there or is longer than the buffer.
+// The argument's bytes at the start of the buffer, and how many they are: none, where it is not there or is longer than the buffer. No word and no
+// number is empty, so both readers refuse none.
 fn argument(rt: HostRuntime, i: usize, buffer: &mut [u8]) -> usize
     ensures { IsPrefixLen result buffer.new }
 {
@@ -36,21 +37,18 @@ fn print(rt: HostRuntime, output: &[u8], errors: &[u8]) -> ExitCode {
 fn layout(rt: HostRuntime) -> ExitCode {
     let mut digits = [0u8; DIGITS];
     let length = argument(rt, 2, &mut digits);
-    let Number::Is(depth) = decimal(&digits[..length]) else {
+    let Some(depth) = decimal(&digits[..length]) else {
         return print(rt, b"", b"depth: Invalid argument\n");
     };
     let mut buffer = [0u8; LONGEST + 1];
-    let given = read_all(&mut rt.stdin(), &mut buffer);
-    if let Some(why) = given.failed {
-        return fail(&rt, "standard input", &why);
-    }
-    let count = given.count;
+    let count = match read_all(&mut rt.stdin(), &mut buffer) {
+        Ok(count) => count,
+        Err(stopped) => return fail(&rt, "standard input", &stopped.why),
+    };
     let mut output = [0u8; PAGE];
     let mut errors = [0u8; LINE];
     let printed = commands::layout(&buffer[..count], depth, &mut output, &mut errors);
-    let on_output = printed.output;
-    let on_errors = printed.errors;
-    print(rt, &output[..on_output], &errors[..on_errors])
+    print(rt, &output[..printed.output], &errors[..printed.errors])
 }
 
 // A wrong word, or none, gets the list of words.
@@ -58,7 +56,7 @@ fn main(rt: HostRuntime) -> ExitCode {
     let mut letters = [0u8; LETTERS];
     let length = argument(rt, 1, &mut letters);
     match word_of(&letters[..length]) {
-        Word::Layout => layout(rt),
-        Word::Unknown => print(rt, b"", b"desk layout DEPTH\n"),
+        Some(Word::Layout) => layout(rt),
+        None => print(rt, b"", b"desk layout DEPTH\n"),
     }
 }

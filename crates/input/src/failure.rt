@@ -11,10 +11,9 @@ const ROOM: usize = 320;
 pub fn fail(rt: &impl Eprint, what: &str, why: &io::Error) -> ExitCode {
     let text = InlineText::<ROOM>::of(why);
     let all = text.as_str();
-    let words = match all.split_once(" (os error ") {
-        Some((words, _)) => words,
-        None => all,
-    };
+    let words = all
+        .split_once(" (os error ")
+        .map_or(all, |(words, _)| words);
     let _ = rt.eprintln(format_args!("{what}: {words}"));
     ExitCode::FAILURE
 }

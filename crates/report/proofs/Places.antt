@@ -7,23 +7,26 @@ use mathlib.Core.List.{List}
 use lib.ListN.{length}
 use Rattle.laws.proofs.Choice.{b_elim, lt_elim, eq_elim}
 use Rattle.network.specs.declared.Network.{Network}
-use Rattle.actions.specs.declared.Record.{Record}
+use Rattle.std.specs.Prelude.{Result, Ok, Err}
+use Rattle.answers.specs.declared.Refusal.{Refusal}
+use Rattle.actions.specs.declared.Act.{Act}
 use Rattle.actions.specs.Records.{read_at}
 use Rattle.actions.proofs.Records.{record_within}
 use Rattle.synchronizer.specs.declared.State.{State}
+use Rattle.synchronizer.specs.declared.Done.{Done}
 use Rattle.synchronizer.specs.declared.Acted.{Acted}
 use Rattle.synchronizer.specs.declared.Ran.{Ran}
 use Rattle.synchronizer.specs.Wires.{Wires, wires_of}
 use Rattle.synchronizer.specs.Entry.{acted, ran, in_range, done_in, acted_as, record_in, act_in, list_from, list_of}
 
 module _ (w : Wires) (bytes : List ℕ) where
-  record_ends : (s : State) (at : ℕ) (r : Record) → read_at bytes at ≡ r → at ≤ length bytes → at + (record_in w s r).place ≤ length bytes
+  record_ends : (s : State) (at : ℕ) (r : Result Act Refusal) → read_at bytes at ≡ r → at ≤ length bytes → at + (record_in w s r).place ≤ length bytes
   unfolding record_in acted_as
-  record_ends s at Record.Unknown e h = omega arith
-  record_ends s at Record.Short e h = omega arith
-  record_ends s at (Record.Act k p q width) e h =
-      eq_elim (λ (a : Acted). at + a.place ≤ length bytes) (done_in w s k p q).answer 0 (acted 0 width (done_in w s k p q).state) (acted (done_in w s k p q).answer 0 (done_in w s k p q).state)
-      (λ _. (record_within bytes at k p q width e).2) (λ _. omega arith)
+  record_ends s at (Err f) e h = omega arith
+  record_ends s at (Ok x) e h =
+      let d : Done = done_in w s x.kind x.p x.q in
+      eq_elim (λ (a : Acted). at + a.place ≤ length bytes) d.answer 0 (acted 0 x.width d.state) (acted d.answer 0 d.state)
+      (λ _. (record_within bytes at x.kind x.p x.q x.width e).2) (λ _. omega arith)
 
   action_ends : (s : State) (at : ℕ) → at ≤ length bytes → at + (act_in w s bytes at).place ≤ length bytes
   unfolding act_in

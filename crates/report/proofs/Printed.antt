@@ -9,7 +9,7 @@ use mathlib.Core.List.{List, [], ◌∷◌, ◌++◌}
 use lib.ListN.{length, drop, length-append, length-drop}
 use Rattle.laws.proofs.Choice.{if_lt_yes, if_lt_no, lt_elim, eq_elim}
 use Rattle.network.specs.declared.Network.{Network}
-use Rattle.records.specs.declared.Planned.{Planned}
+use Rattle.records.specs.Planned.{Planned}
 use Rattle.clusters.specs.Clusters.{cluster_count}
 use Rattle.plan.specs.Checks.{plan_of}
 use Rattle.synchronizer.specs.declared.Ran.{Ran}

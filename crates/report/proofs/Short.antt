@@ -13,15 +13,19 @@ unfolding EachBelow
 end_short number place h k =
     line_length 19 (101 ∷ 110 ∷ 100 ∷ []) (number ∷ place ∷ []) (omega arith, (omega arith, tt))
 
-pub run_short : (nodes links clusters rounds : ℕ) (lines : List ℕ) (taken number place : ℕ) → nodes ≤ 64 → links < 2 ^ 64 → clusters < 2 ^ 64 → rounds < 2 ^ 64 → taken < 2 ^ 64 → number < 2 ^ 64 → place < 2 ^ 64 → length lines ≤ 29 * nodes → length (plan_line nodes links clusters rounds ++ lines ++ taken_line taken ++ end_line number place) ≤ 2048
+pub plan_short : (nodes links clusters rounds : ℕ) → nodes < 2 ^ 64 → links < 2 ^ 64 → clusters < 2 ^ 64 → rounds < 2 ^ 64 → length (plan_line nodes links clusters rounds) ≤ 89
 unfolding EachBelow
-run_short nodes links clusters rounds lines taken number place hn hl hc hr ht hm hp h =
+plan_short nodes links clusters rounds hn hl hc hr =
+    line_length 19 (112 ∷ 108 ∷ 97 ∷ 110 ∷ []) (nodes ∷ links ∷ clusters ∷ rounds ∷ []) (omega arith, (omega arith, (omega arith, (omega arith, tt))))
+
+pub run_short : (nodes : ℕ) (plan lines : List ℕ) (taken number place : ℕ) → nodes ≤ 64 → taken < 2 ^ 64 → number < 2 ^ 64 → place < 2 ^ 64 → length plan ≤ 89 → length lines ≤ 29 * nodes → length (plan ++ lines ++ taken_line taken ++ end_line number place) ≤ 2048
+unfolding EachBelow
+run_short nodes plan lines taken number place hn ht hm hp hl h =
     omega (
       arith,
-      length-append (plan_line nodes links clusters rounds ++ lines ++ taken_line taken) (end_line number place),
-      length-append (plan_line nodes links clusters rounds ++ lines) (taken_line taken),
-      length-append (plan_line nodes links clusters rounds) lines,
-      line_length 19 (112 ∷ 108 ∷ 97 ∷ 110 ∷ []) (nodes ∷ links ∷ clusters ∷ rounds ∷ []) (omega arith, (omega arith, (omega arith, (omega arith, tt)))),
+      length-append (plan ++ lines ++ taken_line taken) (end_line number place),
+      length-append (plan ++ lines) (taken_line taken),
+      length-append plan lines,
       line_length 19 (116 ∷ 97 ∷ 107 ∷ 101 ∷ 110 ∷ []) (taken ∷ []) (omega arith, tt),
       end_short number place hm hp,
     )

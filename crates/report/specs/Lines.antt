@@ -22,7 +22,11 @@ taken_line taken = line (116 ∷ 97 ∷ 107 ∷ 101 ∷ 110 ∷ []) (taken ∷ [
 abbrev pub end_line : ℕ → ℕ → List ℕ
 end_line number place = line (101 ∷ 110 ∷ 100 ∷ []) (number ∷ place ∷ [])
 
--- the lines of the nodes below n, in rising order: "Rounds started are outputs, rounds finished are inputs"
+-- the line of node n: "Rounds started are outputs, rounds finished are inputs"
+abbrev pub node_line_of : List ℕ → List ℕ → ℕ → List ℕ
+node_line_of counts values n = node_line n (count_in counts (count Kind.Output n)) (count_in counts (count Kind.Input n)) (get_or values n 0)
+
+-- the lines of the nodes below n, in rising order
 unfoldable pub node_lines : List ℕ → List ℕ → ℕ → List ℕ
 node_lines counts values zero = []
 node_lines counts values (suc n) =

@@ -4,7 +4,7 @@ use Rattle.std.specs.Prelude.{ℕ, ◌+◌, ◌≤◌, ◌≡◌, List, ◌++◌
 use Rattle.laws.specs.Lists.{Bytes}
 use Rattle.laws.specs.Choice.{if_lt, if_eq}
 use Rattle.network.specs.declared.Network.{Network}
-use Rattle.records.specs.declared.Planned.{Planned}
+use Rattle.records.specs.Planned.{Planned}
 use Rattle.clusters.specs.Clusters.{cluster_count}
 use Rattle.plan.specs.Checks.{plan_of}
 use Rattle.synchronizer.specs.declared.Ran.{Ran}

@@ -8,17 +8,14 @@ ghost use Rattle.text.specs.Put.{Put};
 ghost use Rattle.report.specs.Lines.{end_line};
 ghost use Rattle.report.specs.Report.{list_text, text_of, written_in, filled_by, Printed};
 
+use answers::Refusal;
 use lines::{end_line, run_lines};
-use network::Network;
-use records::ACCEPTED;
+use records::Plan;
 use synchronizer::State;
 use text::word;
 
 // The most bytes that a trial file may have.
 pub const LONGEST: usize = 65536;
-
-// "program only: input longer than 65,536 bytes"
-pub const TOO_LONG: u8 = 19;
 
 // A buffer of so many bytes has room for every text, and one of so many for every end line.
 pub const PAGE: usize = 2048;
@@ -48,48 +45,28 @@ pub fn end_only(out: &mut [u8], number: u8, place: usize) -> usize
 }
 
 // The report of an accepted plan and the actions behind it, on a page.
-fn after_plan(page: &mut [u8], bytes: &[u8], from: usize, net: Network) -> usize
-    requires { (from ≤ length bytes.now) × (net.nodes ≤ 64) }
-    ensures put { Put page.old 0 (list_text bytes.now from net) result page.new }
-    ensures short { length (list_text bytes.now from net) ≤ 2048 }
+fn after_plan(page: &mut [u8], bytes: &[u8], plan: &Plan) -> usize
+    requires { (plan.now.taken ≤ length bytes.now) × (plan.now.network.nodes ≤ 64) }
+    ensures put { Put page.old 0 (list_text bytes.now plan.now.taken plan.now.network) result page.new }
+    ensures short { length (list_text bytes.now plan.now.taken plan.now.network) ≤ 2048 }
 {
-    let clusters = clusters::count(net);
-    let begun = State::start(net);
-    let start = begun.state;
-    let ran = start.run(net, &bytes[from..]);
-    let after = ran.state;
-    let counts = after.counts;
-    let values = after.values;
-    run_lines(
-        page,
-        net.nodes,
-        net.links,
-        clusters,
-        net.rounds,
-        &counts,
-        &values,
-        ran.taken,
-        ran.answer,
-        from + ran.place,
-    )
+    let begun = State::start(plan.network);
+    let ran = begun.state.run(plan.network, &bytes[plan.taken..]);
+    run_lines(page, &plan.network, plan.taken, &ran)
 }
 
-// The whole text, on a page with room for the longest.
+// The whole text, on a page with room for the longest. "program only: input longer than 65,536 bytes" comes before any look at the plan.
 fn write_page(bytes: &[u8], page: &mut [u8]) -> usize
     ensures put { Put page.old 0 (text_of bytes.now) result page.new }
     ensures short { length (text_of bytes.now) ≤ 2048 }
 {
     if LONGEST < bytes.len() {
-        return end_line(page, 0, TOO_LONG, LONGEST);
+        return end_line(page, 0, Refusal::TooLong.number(), LONGEST);
     }
-    let planned = plan::read_plan(bytes);
-    let number = planned.number;
-    let place = planned.place;
-    if number != ACCEPTED {
-        return end_line(page, 0, number, place);
+    match plan::read_plan(bytes) {
+        Ok(plan) => after_plan(page, bytes, &plan),
+        Err(refused) => end_line(page, 0, refused.refusal.number(), refused.place),
     }
-    let net = planned.network;
-    after_plan(page, bytes, place, net)
 }
 
 // Any bytes, any buffer: the text at the buffer's start, and how many bytes it has; or, in a buffer that is too short for the whole text,

@@ -25,7 +25,14 @@ pub fn teravulk_layout(bytes: &[u8], depth: usize, out: &mut [u8], place: &mut u
     ensures written { out.new ≡ laid_in bytes.now depth out.old }
     ensures small { Bytes bytes.now }
 {
-    let laid = layout::layout(bytes, depth, out);
-    *place = laid.place;
-    laid.number as usize
+    match layout::layout(bytes, depth, out) {
+        Ok(written) => {
+            *place = written;
+            0
+        }
+        Err(refused) => {
+            *place = refused.place;
+            refused.refusal.number() as usize
+        }
+    }
 }

@@ -7,7 +7,8 @@ pub returns : goal.returns
 returns c =
     let ended = c.end_only.ensures in
     let output = c.args.output.now in
-    record {
+    rw (← c.number.ensures)
+    (record {
       prints = record { counts = λ i. record { output = nothing_written output i; errors = ended.count i }; on_output = nothing_filled output; on_errors = ended.held };
       short = record { output_fits = omega arith; errors_fit = ended.at_most };
-    }
+    })

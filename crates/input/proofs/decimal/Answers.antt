@@ -1,22 +1,28 @@
 -- `decimal`: each turn reads one digit more of the number.
 -- Assumes nothing.
 use Rattle.std.proofs.Common.{arith, sym, ◌∙◌}
+use borrow.Author.Tests.{eqb-true, eqb-false}
+use lib.ListN.{length}
 use Rattle.input.proofs.Digits.{read_none, empty_none, one_more, no_more, read_whole}
 use Rattle.input.proofs.decimal.Goals as goal
 
-pub returns-then-bytes-eq0 : goal.returns-then-bytes-eq0
-returns-then-bytes-eq0 c = empty_none c.args.bytes.now (omega arith)
+pub returns-then-is_empty : goal.returns-then-is_empty
+returns-then-is_empty c = empty_none c.args.bytes.now (eqb-true _ 0 (sym c.if-is_empty.ensures))
 
-pub loop-i-init : goal.loop-i-init
-loop-i-init c = (omega arith, read_none c.args.bytes.now)
+pub loop-byte-init : goal.loop-byte-init
+loop-byte-init c = read_none c.args.bytes.now
 
-pub returns-in_default : goal.returns-in_default
-returns-in_default c =
-    no_more c.args.bytes.now c.loop-i.i c.loop-i.number c.loop-i.invariant.1 c.loop-i-test.true (sym c.with_digit.ensures ∙ c.in_default.is)
+pub loop-byte-preserved : goal.loop-byte-preserved
+loop-byte-preserved c = let at = c.loop-byte in
+    one_more c.args.bytes.now at.byte-index at.number at.invariant c.loop-byte-test.true c.in_ok-number.number (sym c.with_digit.ensures ∙ c.in_ok-number.was)
 
-pub loop-i-preserved : goal.loop-i-preserved
-loop-i-preserved c =
-    (omega arith, one_more c.args.bytes.now c.loop-i.i c.loop-i.number c.loop-i.invariant.1 c.loop-i-test.true c.in-Is.more (sym c.with_digit.ensures ∙ c.in-Is.is))
+pub returns-in_err-number : goal.returns-in_err-number
+returns-in_err-number c =
+    let at = c.loop-byte in
+    c.from_residual.ensures
+    ∙ no_more c.args.bytes.now at.byte-index at.number at.invariant c.loop-byte-test.true (sym c.with_digit.ensures ∙ c.in_err-number.was)
 
 pub returns : goal.returns
-returns c = read_whole c.args.bytes.now c.loop-i.i c.loop-i.number c.loop-i.invariant.1 (omega arith) (omega arith)
+returns c =
+    let at = c.loop-byte in
+    read_whole c.args.bytes.now at.byte-index at.number at.invariant (omega (arith, eqb-false (length c.args.bytes.now) 0 (sym c.if-is_empty.ensures))) (omega arith)

@@ -1,19 +1,19 @@
 -- `with_digit`: by the byte, and then by whether ten times the number and the digit is held.
 -- Assumes nothing.
-use Rattle.std.proofs.Common.{arith, sym, ◌∙◌}
-use Rattle.input.proofs.Digits.{digit_is, not_below, not_above, held_is, not_held, no_digit, a_digit}
+use native.Mathlib.Omega.{arith}
+use Rattle.std.proofs.lemmas.Bool.Decides.{nat_tests}
+use Rattle.laws.specs.Choice.{if_b, if_lt, both}
+use Rattle.input.specs.Number.{is_digit, held, with_digit}
 use Rattle.input.proofs.with_digit.Goals as goal
 
-pub returns-then-byte-lt-ZERO : goal.returns-then-byte-lt-ZERO
-returns-then-byte-lt-ZERO c = no_digit c.args.before c.args.byte (not_below c.args.byte (omega arith))
+pub returns-then-not-contains : goal.returns-then-not-contains
+unfolding with_digit is_digit both if_b
+returns-then-not-contains c = grind (arith, nat_tests, c.contains.ensures.cases)
 
-pub returns-then-byte-gt-NINE : goal.returns-then-byte-gt-NINE
-returns-then-byte-gt-NINE c = no_digit c.args.before c.args.byte (not_above c.args.byte (omega arith))
-
-pub returns-then-digit-before : goal.returns-then-digit-before
-returns-then-digit-before c =
-    sym (a_digit c.args.before c.args.byte (digit_is c.args.byte (omega arith) (omega arith)) ∙ not_held _ (omega arith))
+pub returns-in_err-tens : goal.returns-in_err-tens
+unfolding with_digit is_digit held both if_b if_lt
+returns-in_err-tens c = grind (arith, nat_tests, c.contains.ensures.cases, c.in_err-tens.ensures)
 
 pub returns : goal.returns
-returns c =
-    sym (a_digit c.args.before c.args.byte (digit_is c.args.byte (omega arith) (omega arith)) ∙ held_is _ (omega arith))
+unfolding with_digit is_digit held both if_b if_lt
+returns c = grind (arith, nat_tests, c.contains.ensures.cases, c.in_ok-tens.ensures, c.checked_add.ensures)
