@@ -129,32 +129,32 @@ module _ (net : Network) (v : valid_network net ≡ true) where
     lanes = lanes_of net.lowers net.uppers net.links
 
     -- what waits first in a direction of a link is a packet or an ack
-    pub sorted : (d : ℕ) → d < net.links * 2 → 0 < get_or s.lens d 0 → (get_or s.sorts (d * 2) 0 ≡ 1) ⊎ (get_or s.sorts (d * 2) 0 ≡ 2)
+    pub sorted : (d : ℕ) → d < net.links * 2 → 0 < get_or s.queues.lens d 0 → (get_or s.queues.sorts (d * 2) 0 ≡ 1) ⊎ (get_or s.queues.sorts (d * 2) 0 ≡ 2)
     sorted d h some = at (c.queues.packet_or_ack d 0 h some)
       where
-        at : (get_or s.sorts (d * 2 + 0) 0 ≡ 1) ⊎ ((get_or s.sorts (d * 2 + 0) 0 ≡ 2) × (get_or s.loads (d * 2 + 0) 0 ≡ 0)) → (get_or s.sorts (d * 2) 0 ≡ 1) ⊎ (get_or s.sorts (d * 2) 0 ≡ 2)
+        at : (get_or s.queues.sorts (d * 2 + 0) 0 ≡ 1) ⊎ ((get_or s.queues.sorts (d * 2 + 0) 0 ≡ 2) × (get_or s.queues.loads (d * 2 + 0) 0 ≡ 0)) → (get_or s.queues.sorts (d * 2) 0 ≡ 1) ⊎ (get_or s.queues.sorts (d * 2) 0 ≡ 2)
         at (inl e) = inl (rw (add-zero (d * 2)) at e)
         at (inr e) = inr (rw (add-zero (d * 2)) at e.0)
 
     module _ (p q : ℕ) (j : joins net p q ≡ true) where
-      pub queue_read : (read net s).queue p q ≡ waiting_of (queues s.lens s.sorts s.loads) (direction_of net p q)
+      pub queue_read : (read net s).queue p q ≡ waiting_of s.queues (direction_of net p q)
       unfolding read waiting_in
       queue_read = if_b_yes (joins net p q) (waiting_in s (direction_of net p q)) [] j
 
-      length_read : length ((read net s).queue p q) ≡ get_or s.lens (lane_in lanes p q) 0
+      length_read : length ((read net s).queue p q) ≡ get_or s.queues.lens (lane_in lanes p q) 0
       unfolding lanes
-      length_read = ap length queue_read ∙ length_list _ _ ∙ ap (λ d. get_or s.lens d 0) (sym (lane_is net v p q j))
+      length_read = ap length queue_read ∙ length_list _ _ ∙ ap (λ d. get_or s.queues.lens d 0) (sym (lane_is net v p q j))
 
-      head_read : head_of s.lens s.sorts s.loads (lane_in lanes p q) ≡ head_from ((read net s).queue p q)
+      head_read : head_of s.queues.lens s.queues.sorts s.queues.loads (lane_in lanes p q) ≡ head_from ((read net s).queue p q)
       unfolding lanes
       head_read =
-          ap (head_of s.lens s.sorts s.loads) (lane_is net v p q j)
-          ∙ head_is (queues s.lens s.sorts s.loads) (direction_of net p q) (sorted (direction_of net p q) (direction_below net v p q j))
+          ap (head_of s.queues.lens s.queues.sorts s.queues.loads) (lane_is net v p q j)
+          ∙ head_is s.queues (direction_of net p q) (sorted (direction_of net p q) (direction_below net v p q j))
           ∙ ap head_from (sym queue_read)
 
     -- 16 by what is first, and 18
     queue_outcome : (does : Does) (p q i : ℕ) → (moves does ≡ true → joins net p q ≡ true)
-        → queue_answer does (head_of s.lens s.sorts s.loads (lane_in lanes p q)) (get_or s.lens (lane_in lanes p q) 0)
+        → queue_answer does (head_of s.queues.lens s.queues.sorts s.queues.loads (lane_in lanes p q)) (get_or s.queues.lens (lane_in lanes p q) 0)
         ≡ must (every (met (read net s) i) (queue_needs does p q)) 16 (must (if_b (sends_one does) (ltb (length ((read net s).queue p q)) 2) true) 18 0)
     unfolding queue_answer room_answer queue_needs every met sends_one moves must both if_b if_lt
     queue_outcome Does.Starts p q i on = refl
@@ -214,7 +214,7 @@ module _ (net : Network) (v : valid_network net ≡ true) where
           asked m l =
               if_eq (count_answer starts net.rounds m l) 0
               (if_b (every_has (every_of k) s.counts lanes p m (get_or net.neighbours p 0) (get_or net.children p 0) (get_or net.preferred p 0))
-              (queue_answer (does_of k) (head_of s.lens s.sorts s.loads lane) (get_or s.lens lane 0))
+              (queue_answer (does_of k) (head_of s.queues.lens s.queues.sorts s.queues.loads lane) (get_or s.queues.lens lane 0))
               16)
               (count_answer starts net.rounds m l)
 
@@ -224,7 +224,7 @@ module _ (net : Network) (v : valid_network net ≡ true) where
           around : every_has (every_of k) s.counts lanes p n (get_or net.neighbours p 0) (get_or net.children p 0) (get_or net.preferred p 0) ≡ every (met g i) (every_needs (net_of net) (every_of k) p)
           around = every_read net v s n p below (every_of k) (row_of a).fitting
 
-          line : queue_answer (does_of k) (head_of s.lens s.sorts s.loads lane) (get_or s.lens lane 0) ≡ must (every (met g i) (queue_needs (does_of k) p q)) 16 (must (if_b (sends_one (does_of k)) (ltb (length (g.queue p q)) 2) true) 18 0)
+          line : queue_answer (does_of k) (head_of s.queues.lens s.queues.sorts s.queues.loads lane) (get_or s.queues.lens lane 0) ≡ must (every (met g i) (queue_needs (does_of k) p q)) 16 (must (if_b (sends_one (does_of k)) (ltb (length (g.queue p q)) 2) true) 18 0)
           line = queue_outcome (does_of k) p q i (moving_joins a e)
 
           time : if_b starts (leb i net.rounds) true ≡ in_time (net_of net) g a

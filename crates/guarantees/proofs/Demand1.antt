@@ -10,7 +10,7 @@ use Rattle.laws.specs.Lists.{Bytes}
 use Rattle.laws.proofs.Choice.{b_elim, lt_elim}
 use Rattle.network.specs.declared.Network.{Network}
 use Rattle.network.specs.Valid.{valid_network}
-use Rattle.records.specs.declared.Planned.{Planned}
+use Rattle.records.specs.Planned.{Planned}
 use Rattle.records.specs.Keeps.{BreaksAt, bytes_end, unknown, short, whole, BreaksFirst, order, number, range}
 use Rattle.records.specs.Plan.{Plan}
 use Rattle.records.specs.declared.Record.{Record}

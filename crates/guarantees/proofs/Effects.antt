@@ -94,17 +94,17 @@ module _ (net : Network) (v : valid_network net ≡ true) (s : State) where
 
   module _ (c : StateClauses net s) (z : Sized s) where
     -- a send that is not refused by 18 finds room
-    room_left : (a : Act) → sends_one (does_of (kind_of a)) ≡ true → joins net (body_of a).p (body_of a).q ≡ true → room (read net s) a ≡ true → get_or s.lens (direction_of net (body_of a).p (body_of a).q) 0 < 2
+    room_left : (a : Act) → sends_one (does_of (kind_of a)) ≡ true → joins net (body_of a).p (body_of a).q ≡ true → room (read net s) a ≡ true → get_or s.queues.lens (direction_of net (body_of a).p (body_of a).q) 0 < 2
     unfolding room
     room_left a sending j space =
         let shorter : ltb (length ((read net s).queue (body_of a).p (body_of a).q)) 2 ≡ true = sym (if_b_yes (sends a (body_of a).p (body_of a).q) _ true ((row_of a).sending ∙ sending)) ∙ space in
-        let long : length ((read net s).queue (body_of a).p (body_of a).q) ≡ get_or s.lens (direction_of net (body_of a).p (body_of a).q) 0 = ap length (queue_read net v s c (body_of a).p (body_of a).q j) ∙ length_list _ _ in
+        let long : length ((read net s).queue (body_of a).p (body_of a).q) ≡ get_or s.queues.lens (direction_of net (body_of a).p (body_of a).q) 0 = ap length (queue_read net v s c (body_of a).p (body_of a).q j) ∙ length_list _ _ in
         omega (arith, ltb-true (length ((read net s).queue (body_of a).p (body_of a).q)) 2 shorter)
 
     -- a delivery of an ack that is enabled finds one
-    ack_there : (p q : ℕ) → joins net p q ≡ true → ack_at_front ((read net s).queue p q) ≡ true → 0 < get_or s.lens (direction_of net p q) 0
+    ack_there : (p q : ℕ) → joins net p q ≡ true → ack_at_front ((read net s).queue p q) ≡ true → 0 < get_or s.queues.lens (direction_of net p q) 0
     ack_there p q j first =
-        ack_waits (queues s.lens s.sorts s.loads) (direction_of net p q) (sym (ap ack_at_front (queue_read net v s c p q j)) ∙ first)
+        ack_waits s.queues (direction_of net p q) (sym (ap ack_at_front (queue_read net v s c p q j)) ∙ first)
 
     pub effect_holds :
         {a : Act} → Doing a → seated net a ≡ true → Allowed (net_of net) (read net s) a → room (read net s) a ≡ true

@@ -19,6 +19,8 @@ use Rattle.guarantees.specs.Outcome.{MethodOutcome, ActOutcome, ListOutcome}
 use Rattle.guarantees.specs.Promise.{PlanPromise, StartPromise, TablePromise, TrialPromise}
 use Rattle.guarantees.proofs.Outcomes.{method_outcome, act_outcome, list_outcome}
 use Rattle.guarantees.proofs.Promised.{plan_promise, start_promise, table_promise, trial_promise}
+use Rattle.answers.specs.Numbers.{answer_of}
+use Rattle.records.specs.Planned.{planned_of}
 use Rattle.plan.proofs.read_plan.Kinds as read_plan_kinds
 use Rattle.plan.proofs.read_plan.Reads as read_plan_reads
 use Rattle.lockstep.proofs.table.Kinds as table_kinds
@@ -80,13 +82,13 @@ Meets n ps r Post P = (κs : Lfts n) (a : Dens κs ps) (x : (res_t r κs).Denot)
 
 -- ---- the plan reader, the start state, the table
 
-pub read_plan : Meets _ read_plan_kinds.ps read_plan_kinds.r read_plan_reads.Post (λ κs a x t. PlanPromise a.0.now x)
+pub read_plan : Meets _ read_plan_kinds.ps read_plan_kinds.r read_plan_reads.Post (λ κs a x t. PlanPromise a.0.now (planned_of x))
 read_plan κs a x t p = subst (PlanPromise a.0.now) (sym p.0) (plan_promise a.0.now p.1)
 
 pub start : Meets _ start_kinds.ps start_kinds.r start_reads.Post (λ κs a x t. StartPromise a.0 x)
 start κs a x t p = subst (StartPromise a.0) (sym p) (start_promise a.0)
 
-pub table : Meets _ table_kinds.ps table_kinds.r table_reads.Post (λ κs a x t. TablePromise a.0 a.1.0 a.1.1.0.now x t.1.1.0.now)
+pub table : Meets _ table_kinds.ps table_kinds.r table_reads.Post (λ κs a x t. TablePromise a.0 a.1.0 a.1.1.0.now (answer_of x) t.1.1.0.now)
 table κs a x t p =
     subst (λ (y : ℕ × List ℕ). TablePromise a.0 a.1.0 a.1.1.0.now y.0 y.1) (λ i. (sym p.0.0 i, sym p.0.1 i))
     (table_promise a.0 p.1 a.1.0 a.1.1.0.now)

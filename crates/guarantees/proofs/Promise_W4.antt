@@ -10,7 +10,7 @@ use Rattle.laws.specs.Lists.{Bytes}
 use Rattle.records.specs.Keeps.{BreaksAt, bytes_end, unknown, short, whole, BreaksFirst, order, number, range}
 use Rattle.records.specs.Plan.{Plan}
 use Rattle.records.specs.declared.Record.{Record}
-use Rattle.layout.specs.declared.Laid.{Laid}
+use Rattle.layout.specs.Laid.{Laid, laid_of}
 use Rattle.layout.specs.Answers.{LayoutAnswer, by_record, by_10, by_22, by_23, laid_out_lem, Written}
 use Rattle.layout.specs.Layout.{layout_of, laid_in}
 use Rattle.layout.proofs.Answers.{layout_exactly}
@@ -51,8 +51,8 @@ layout_promise s depth out r after e f small =
     (subst (λ (x : Laid). LayoutPromise s depth out x.number x.place (laid_in s depth out)) (sym e) (layout_promised s small depth out))
 
 pub layout :
-    Meets _ layout_kinds.ps layout_kinds.r layout_reads.Post (λ κs a x t. LayoutPromise a.0.now a.1.0 a.1.1.0.now x.number x.place t.1.1.0.now)
-layout κs a x t p = layout_promise a.0.now a.1.0 a.1.1.0.now x t.1.1.0.now p.0 p.1.0 p.1.1
+    Meets _ layout_kinds.ps layout_kinds.r layout_reads.Post (λ κs a x t. LayoutPromise a.0.now a.1.0 a.1.1.0.now (laid_of x).number (laid_of x).place t.1.1.0.now)
+layout κs a x t p = layout_promise a.0.now a.1.0 a.1.1.0.now (laid_of x) t.1.1.0.now p.0 p.1.0 p.1.1
 
 pub teravulk_layout :
     Meets _ teravulk_layout_kinds.ps teravulk_layout_kinds.r teravulk_layout_reads.Post (λ κs a x t. LayoutPromise a.0.now a.1.0 a.1.1.0.now x t.1.1.1.0.now t.1.1.0.now)

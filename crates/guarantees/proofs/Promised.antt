@@ -17,7 +17,7 @@ use Rattle.network.specs.declared.Network.{Network}
 use Rattle.network.specs.Valid.{valid_network, Clauses}
 use Rattle.network.specs.Zeros.{zero_network}
 use Rattle.network.proofs.Valid.{valid_clauses, clauses_valid, valid_limits}
-use Rattle.records.specs.declared.Planned.{Planned}
+use Rattle.records.specs.Planned.{Planned}
 use Rattle.records.specs.Plan.{padded, network_of}
 use Rattle.records.specs.Keeps.{no_plan}
 use Rattle.records.specs.Reader.{answered}

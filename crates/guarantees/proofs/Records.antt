@@ -7,15 +7,18 @@ use mathlib.Core.Path.{◌≡◌, refl, sym, ◌∙◌, ap, subst}
 use mathlib.Core.Bool.{Bool, true, false, true≢false}
 use mathlib.Core.List.{List}
 use lib.ListN.{length, get_or}
+use Rattle.std.specs.Prelude.{Result, Ok, Err}
+use Rattle.std.specs.Result.{result_unwrap_or}
+use Rattle.answers.specs.declared.Refusal.{Refusal}
+use Rattle.answers.specs.declared.Refusal.TheVariants.{ActionUnknown, ActionCutShort}
 use Rattle.laws.specs.Choice.{if_b, if_lt}
 use Rattle.laws.proofs.Choice.{if_lt_yes, if_lt_no}
 use Rattle.actions.specs.declared.Kind.{Kind}
 use Rattle.actions.specs.declared.Place.{Place}
-use Rattle.actions.specs.declared.Record.{Record}
-use Rattle.actions.specs.declared.Record.TheVariants as Read
+use Rattle.actions.specs.declared.Act.{Act as Held}
 use Rattle.actions.specs.Kinds.{number_of, kinds, index_of, kind_at}
 use Rattle.actions.specs.Table.{place_of}
-use Rattle.actions.specs.Records.{names_of, act_at, read_at, Holds}
+use Rattle.actions.specs.Records.{names_of, act, act_at, read_at, Holds}
 use Rattle.actions.specs.Records.{body_of as length_of}
 use Rattle.actions.proofs.Numbers.{seated, number_from_16, number_at}
 use Rattle.actions.proofs.Records.{read_holds, holds_read}
@@ -41,17 +44,17 @@ one_byte k = by (place_of k)
 
 module _ (bytes : List ℕ) (at : ℕ) where
   pub data Found : Type 0 where
-    unknown : UnknownAt bytes at → read_at bytes at ≡ Read.Unknown → Found
-    cut : CutAt bytes at → read_at bytes at ≡ Read.Short → Found
-    action : (a : Act) (width : ℕ) → Names bytes at a width → read_at bytes at ≡ Read.Act (kind_of a) (body_of a).p (body_of a).q width → Found
+    unknown : UnknownAt bytes at → read_at bytes at ≡ Err ActionUnknown → Found
+    cut : CutAt bytes at → read_at bytes at ≡ Err ActionCutShort → Found
+    action : (a : Act) (width : ℕ) → Names bytes at a width → read_at bytes at ≡ Ok (act (kind_of a) (body_of a).p (body_of a).q width) → Found
 
   -- a record that is read is an action's: where it has one number, its first byte is its last
-  from_record : (k : Kind) (p q width : ℕ) → read_at bytes at ≡ Read.Act k p q width → Found
+  from_record : (k : Kind) (p q width : ℕ) → read_at bytes at ≡ Ok (act k p q width) → Found
   unfolding if_b
   from_record k p q width e =
       action (action_of k p q) width
       (holds_names bytes at (action_of k p q) width (subst (λ (z : Kind × ℕ × ℕ). Holds bytes at z.0 z.1 z.2 width) (λ i. (kind i, first i, last i)) held))
-      (e ∙ (λ i. Read.Act (kind i) (first i) (last i) width))
+      (e ∙ (λ i. Ok (act (kind i) (first i) (last i) width)))
     where
       held : Holds bytes at k p q width
       held = read_holds bytes at k p q width e
@@ -81,36 +84,36 @@ module _ (bytes : List ℕ) (at : ℕ) where
     where
       by : Dec (at + length_of k < length bytes) → Found
       by (yes h) =
-          from_record k (get_or bytes (at + 1) 0) (get_or bytes (at + length_of k) 0) (length_of k + 1) (sym is ∙ if_lt_yes (at + length_of k) (length bytes) _ Read.Short h)
-      by (no h) = cut (too_few (action_of k 0 0) (e ∙ sym (byte_of k 0 0)) (omega (arith, length_of_kind k 0 0))) (sym is ∙ if_lt_no (at + length_of k) (length bytes) _ Read.Short (omega arith))
+          from_record k (get_or bytes (at + 1) 0) (get_or bytes (at + length_of k) 0) (length_of k + 1) (sym is ∙ if_lt_yes (at + length_of k) (length bytes) _ (Err ActionCutShort) h)
+      by (no h) = cut (too_few (action_of k 0 0) (e ∙ sym (byte_of k 0 0)) (omega (arith, length_of_kind k 0 0))) (sym is ∙ if_lt_no (at + length_of k) (length bytes) _ (Err ActionCutShort) (omega arith))
 
   pub found : Found
   unfolding read_at index_of b
   found = by (dec_lt at (length bytes))
     where
-      tested : Record
-      tested = if_lt (b - 16) (length kinds) (act_at bytes at (kind_at (b - 16))) Read.Unknown
+      tested : Result Held Refusal
+      tested = if_lt (b - 16) (length kinds) (act_at bytes at (kind_at (b - 16))) (Err ActionUnknown)
 
-      later : Record
-      later = if_lt b 16 Read.Unknown tested
+      later : Result Held Refusal
+      later = if_lt b 16 (Err ActionUnknown) tested
 
       high : at < length bytes → 16 ≤ b → Dec (b - 16 < length kinds) → Found
       high h g (yes l) =
           of_kind (kind_at (b - 16)) (omega (arith, number_at (b - 16) l))
-          (sym (if_lt_yes at (length bytes) later Read.Short h ∙ if_lt_no b 16 Read.Unknown tested g ∙ if_lt_yes (b - 16) (length kinds) _ Read.Unknown l))
+          (sym (if_lt_yes at (length bytes) later (Err ActionCutShort) h ∙ if_lt_no b 16 (Err ActionUnknown) tested g ∙ if_lt_yes (b - 16) (length kinds) _ (Err ActionUnknown) l))
       high h g (no l) =
           unknown (record { within = h; no_kind = λ a e. omega (arith, (seated (kind_of a)).0, e, kind_byte_lem a) })
-          (if_lt_yes at (length bytes) later Read.Short h ∙ if_lt_no b 16 Read.Unknown tested g ∙ if_lt_no (b - 16) (length kinds) _ Read.Unknown (omega arith))
+          (if_lt_yes at (length bytes) later (Err ActionCutShort) h ∙ if_lt_no b 16 (Err ActionUnknown) tested g ∙ if_lt_no (b - 16) (length kinds) _ (Err ActionUnknown) (omega arith))
 
       in_bytes : at < length bytes → Dec (b < 16) → Found
       in_bytes h (yes l) =
           unknown (record { within = h; no_kind = λ a e. omega (arith, number_from_16 (kind_of a), e, kind_byte_lem a) })
-          (if_lt_yes at (length bytes) later Read.Short h ∙ if_lt_yes b 16 Read.Unknown tested l)
+          (if_lt_yes at (length bytes) later (Err ActionCutShort) h ∙ if_lt_yes b 16 (Err ActionUnknown) tested l)
       in_bytes h (no l) = high h (omega arith) (dec_lt (b - 16) (length kinds))
 
       by : Dec (at < length bytes) → Found
       by (yes h) = in_bytes h (dec_lt b 16)
-      by (no h) = cut (no_byte (omega arith)) (if_lt_no at (length bytes) later Read.Short (omega arith))
+      by (no h) = cut (no_byte (omega arith)) (if_lt_no at (length bytes) later (Err ActionCutShort) (omega arith))
 
   -- ---- it is only one of them
 
@@ -118,21 +121,21 @@ module _ (bytes : List ℕ) (at : ℕ) where
   unfolding index_of
   same_number j k e = same_index j k (ap (λ n. n - 16) e)
 
-  pub unknown_read : UnknownAt bytes at → read_at bytes at ≡ Read.Unknown
+  pub unknown_read : UnknownAt bytes at → read_at bytes at ≡ Err ActionUnknown
   unknown_read u = by found
     where
-      by : Found → read_at bytes at ≡ Read.Unknown
+      by : Found → read_at bytes at ≡ Err ActionUnknown
       by (unknown _ e) = e
       by (cut (no_byte h) _) = absurd (omega (arith, u.within))
       by (cut (too_few k e _) _) = absurd (u.no_kind k e)
       by (action a width h _) = absurd (u.no_kind a ((names_holds bytes at a width h).kind ∙ sym (kind_byte_lem a)))
 
-  pub cut_read : CutAt bytes at → read_at bytes at ≡ Read.Short
+  pub cut_read : CutAt bytes at → read_at bytes at ≡ Err ActionCutShort
   unfolding read_at
-  cut_read (no_byte h) = if_lt_no at (length bytes) _ Read.Short h
+  cut_read (no_byte h) = if_lt_no at (length bytes) _ (Err ActionCutShort) h
   cut_read (too_few k e f) = by found
     where
-      by : Found → read_at bytes at ≡ Read.Short
+      by : Found → read_at bytes at ≡ Err ActionCutShort
       by (unknown u _) = absurd (u.no_kind k e)
       by (cut _ r) = r
       by (action a width h _) =
@@ -140,13 +143,14 @@ module _ (bytes : List ℕ) (at : ℕ) where
           let same : kind_of a ≡ kind_of k = same_number (kind_of a) (kind_of k) (sym held.kind ∙ e ∙ kind_byte_lem k) in
           absurd (omega (arith, held.within, held.whole, ap length_of same, record_length k))
 
-  pub names_read : (a : Act) (width : ℕ) → Names bytes at a width → read_at bytes at ≡ Read.Act (kind_of a) (body_of a).p (body_of a).q width
+  pub names_read : (a : Act) (width : ℕ) → Names bytes at a width → read_at bytes at ≡ Ok (act (kind_of a) (body_of a).p (body_of a).q width)
   names_read a width h = holds_read bytes at (kind_of a) (body_of a).p (body_of a).q width (names_holds bytes at a width h)
 
   pub names_once : (a b : Act) (w u : ℕ) → Names bytes at a w → Names bytes at b u → (a ≡ b) × (w ≡ u)
   names_once a b w u h g =
-      let one : Read.Act (kind_of a) (body_of a).p (body_of a).q w ≡ Read.Act (kind_of b) (body_of b).p (body_of b).q u = sym (names_read a w h) ∙ names_read b u g in
-      let kind : kind_of a ≡ kind_of b = cc in
-      let first : (body_of a).p ≡ (body_of b).p = cc in
-      let last : (body_of a).q ≡ (body_of b).q = cc in
-      (sym (row_of a).rebuilt ∙ (λ i. action_of (kind i) (first i) (last i)) ∙ (row_of b).rebuilt, cc)
+      let one : ◌≡◌ {A = Result Held Refusal} (Ok (act (kind_of a) (body_of a).p (body_of a).q w)) (Ok (act (kind_of b) (body_of b).p (body_of b).q u)) = sym (names_read a w h) ∙ names_read b u g in
+      let same : act (kind_of a) (body_of a).p (body_of a).q w ≡ act (kind_of b) (body_of b).p (body_of b).q u = ap (λ r. result_unwrap_or r (act (kind_of a) 0 0 0)) one in
+      let kind : kind_of a ≡ kind_of b = ap (λ x. x.kind) same in
+      let first : (body_of a).p ≡ (body_of b).p = ap (λ x. x.p) same in
+      let last : (body_of a).q ≡ (body_of b).q = ap (λ x. x.q) same in
+      (sym (row_of a).rebuilt ∙ (λ i. action_of (kind i) (first i) (last i)) ∙ (row_of b).rebuilt, ap (λ x. x.width) same)

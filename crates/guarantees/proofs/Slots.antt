@@ -38,16 +38,16 @@ use Rattle.guarantees.proofs.Answers.{sorted, queue_read, own_read}
 
 module _ (net : Network) (v : valid_network net ≡ true) (s : State) (c : StateClauses net s) (z : Sized s) (p q : ℕ) (j : joins net p q ≡ true) (e : seated net (packet_delivered p q) ≡ true) (first : packet_at_front ((read net s).queue p q) ≡ true) where
   -- the first message of the direction is a packet, and carries the load of the first place
-  pub carries : (0 < get_or s.lens (direction_of net p q) 0) × ((old : ℕ) → carried (waiting_of (queues s.lens s.sorts s.loads) (direction_of net p q)) old ≡ get_or s.loads (direction_of net p q * 2) 0)
+  pub carries : (0 < get_or s.queues.lens (direction_of net p q) 0) × ((old : ℕ) → carried (waiting_of s.queues (direction_of net p q)) old ≡ get_or s.queues.loads (direction_of net p q * 2) 0)
   carries =
-      packet_carries (queues s.lens s.sorts s.loads) (direction_of net p q) (sorted net v s c (direction_of net p q) (direction_below net v p q j)) (sym (ap packet_at_front (queue_read net v s c p q j)) ∙ first)
+      packet_carries s.queues (direction_of net p q) (sorted net v s c (direction_of net p q) (direction_below net v p q j)) (sym (ap packet_at_front (queue_read net v s c p q j)) ∙ first)
 
-  head : head_of s.lens s.sorts s.loads (direction_of net p q) ≡ Head.Packet (get_or s.loads (direction_of net p q * 2) 0)
+  head : head_of s.queues.lens s.queues.sorts s.queues.loads (direction_of net p q) ≡ Head.Packet (get_or s.queues.loads (direction_of net p q * 2) 0)
   head =
-      packet_head (queues s.lens s.sorts s.loads) (direction_of net p q) (sorted net v s c (direction_of net p q) (direction_below net v p q j)) (sym (ap packet_at_front (queue_read net v s c p q j)) ∙ first)
+      packet_head s.queues (direction_of net p q) (sorted net v s c (direction_of net p q) (direction_below net v p q j)) (sym (ap packet_at_front (queue_read net v s c p q j)) ∙ first)
 
   load : ℕ
-  load = get_or s.loads (direction_of net p q * 2) 0
+  load = get_or s.queues.loads (direction_of net p q * 2) 0
 
   -- the delivery's number, and where the array has its slot
   i : ℕ
@@ -59,7 +59,7 @@ module _ (net : Network) (v : valid_network net ≡ true) (s : State) (c : State
   slots_are : (after_of net s (kind_of (packet_delivered p q)) p q).slots ≡ set s.slots x load
   unfolding after_in effect_in counted wires_of kind_of does_of body_of heard_in i x load
   slots_are =
-      (λ k. heard_in s.slots (head_of s.lens s.sorts s.loads (lane_is net v p q j k)) (lane_is net v p q j k) (times k))
+      (λ k. heard_in s.slots (head_of s.queues.lens s.queues.sorts s.queues.loads (lane_is net v p q j k)) (lane_is net v p q j k) (times k))
       ∙ ap (λ h. heard_in s.slots h (direction_of net p q) i) head
     where
       times : count_in s.counts (own_in (wires_of net) (kind_of (packet_delivered p q)) p q) + 1 ≡ i

@@ -7,7 +7,14 @@ use mathlib.Core.List.{List}
 use contract.Lifetimes.{Lfts}
 use denote.Triple.Clauses.{AtExit}
 use borrow.Fn.Kinds.{ParamKind, ResultKind, Out, Dens, res_t, ended_of}
-use Rattle.queue.specs.Queue.{Queues, queues}
+use Rattle.records.proofs.Planned.{planned_of-injective}
+use Rattle.layout.proofs.Laid.{laid_of-injective}
+use Rattle.answers.proofs.Named.{answer_of-injective}
+use Rattle.queue.specs.declared.Queues.{Queues}
+use Rattle.answers.proofs.Refusal.number.Kinds as answers_number_kinds
+use Rattle.answers.proofs.Refusal.number.Reads as answers_number_reads
+use Rattle.nodeset.proofs.NodeSet.members.Kinds as nodeset_members_kinds
+use Rattle.nodeset.proofs.NodeSet.members.Reads as nodeset_members_reads
 use Rattle.nodeset.proofs.NodeSet.contains.Kinds as nodeset_contains_kinds
 use Rattle.nodeset.proofs.NodeSet.contains.Reads as nodeset_contains_reads
 use Rattle.nodeset.proofs.NodeSet.insert.Kinds as nodeset_insert_kinds
@@ -24,16 +31,12 @@ use Rattle.network.proofs.Network.with_sets.Kinds as network_with_sets_kinds
 use Rattle.network.proofs.Network.with_sets.Reads as network_with_sets_reads
 use Rattle.network.proofs.Network.valid.Kinds as network_valid_kinds
 use Rattle.network.proofs.Network.valid.Reads as network_valid_reads
-use Rattle.network.proofs.at_most.Kinds as network_at_most_kinds
-use Rattle.network.proofs.at_most.Reads as network_at_most_reads
 use Rattle.network.proofs.pair_rises.Kinds as network_pair_rises_kinds
 use Rattle.network.proofs.pair_rises.Reads as network_pair_rises_reads
 use Rattle.network.proofs.zeros.Kinds as network_zeros_kinds
 use Rattle.network.proofs.zeros.Reads as network_zeros_reads
 use Rattle.records.proofs.Cursor.read.Kinds as records_read_kinds
 use Rattle.records.proofs.Cursor.read.Reads as records_read_reads
-use Rattle.records.proofs.answer.Kinds as records_answer_kinds
-use Rattle.records.proofs.answer.Reads as records_answer_reads
 use Rattle.records.proofs.read_lists.Kinds as records_read_lists_kinds
 use Rattle.records.proofs.read_lists.Reads as records_read_lists_reads
 use Rattle.links.proofs.joins.Kinds as links_joins_kinds
@@ -42,8 +45,6 @@ use Rattle.links.proofs.has_link.Kinds as links_has_link_kinds
 use Rattle.links.proofs.has_link.Reads as links_has_link_reads
 use Rattle.tree.proofs.root_in.Kinds as tree_root_in_kinds
 use Rattle.tree.proofs.root_in.Reads as tree_root_in_reads
-use Rattle.tree.proofs.root_number.Kinds as tree_root_number_kinds
-use Rattle.tree.proofs.root_number.Reads as tree_root_number_reads
 use Rattle.tree.proofs.first_lost.Kinds as tree_first_lost_kinds
 use Rattle.tree.proofs.first_lost.Reads as tree_first_lost_reads
 use Rattle.tree.proofs.first_untied.Kinds as tree_first_untied_kinds
@@ -64,6 +65,8 @@ use Rattle.claims.proofs.parents.Kinds as claims_parents_kinds
 use Rattle.claims.proofs.parents.Reads as claims_parents_reads
 use Rattle.layout.proofs.layout.Kinds as layout_layout_kinds
 use Rattle.layout.proofs.layout.Reads as layout_layout_reads
+use Rattle.answers.proofs.none_at.Kinds as answers_none_at_kinds
+use Rattle.answers.proofs.none_at.Reads as answers_none_at_reads
 use Rattle.plan.proofs.read_plan.Kinds as plan_read_plan_kinds
 use Rattle.plan.proofs.read_plan.Reads as plan_read_plan_reads
 use Rattle.lockstep.proofs.mean.Kinds as lockstep_mean_kinds
@@ -100,20 +103,22 @@ use Rattle.counts.proofs.above.Kinds as counts_above_kinds
 use Rattle.counts.proofs.above.Reads as counts_above_reads
 use Rattle.counts.proofs.children_have.Kinds as counts_children_have_kinds
 use Rattle.counts.proofs.children_have.Reads as counts_children_have_reads
-use Rattle.queue.proofs.first.Kinds as queue_first_kinds
-use Rattle.queue.proofs.first.Reads as queue_first_reads
-use Rattle.queue.proofs.packet_first.Kinds as queue_packet_first_kinds
-use Rattle.queue.proofs.packet_first.Reads as queue_packet_first_reads
-use Rattle.queue.proofs.ack_first.Kinds as queue_ack_first_kinds
-use Rattle.queue.proofs.ack_first.Reads as queue_ack_first_reads
-use Rattle.queue.proofs.room.Kinds as queue_room_kinds
-use Rattle.queue.proofs.room.Reads as queue_room_reads
-use Rattle.queue.proofs.push.Kinds as queue_push_kinds
-use Rattle.queue.proofs.push.Reads as queue_push_reads
-use Rattle.queue.proofs.pop.Kinds as queue_pop_kinds
-use Rattle.queue.proofs.pop.Reads as queue_pop_reads
-use Rattle.queue.proofs.deliver.Kinds as queue_deliver_kinds
-use Rattle.queue.proofs.deliver.Reads as queue_deliver_reads
+use Rattle.queue.proofs.Queues.first.Kinds as queue_first_kinds
+use Rattle.queue.proofs.Queues.first.Reads as queue_first_reads
+use Rattle.queue.proofs.Queues.packet_first.Kinds as queue_packet_first_kinds
+use Rattle.queue.proofs.Queues.packet_first.Reads as queue_packet_first_reads
+use Rattle.queue.proofs.Queues.ack_first.Kinds as queue_ack_first_kinds
+use Rattle.queue.proofs.Queues.ack_first.Reads as queue_ack_first_reads
+use Rattle.queue.proofs.Queues.room.Kinds as queue_room_kinds
+use Rattle.queue.proofs.Queues.room.Reads as queue_room_reads
+use Rattle.queue.proofs.Queues.push.Kinds as queue_push_kinds
+use Rattle.queue.proofs.Queues.push.Reads as queue_push_reads
+use Rattle.queue.proofs.Queues.send.Kinds as queue_send_kinds
+use Rattle.queue.proofs.Queues.send.Reads as queue_send_reads
+use Rattle.queue.proofs.Queues.pop.Kinds as queue_pop_kinds
+use Rattle.queue.proofs.Queues.pop.Reads as queue_pop_reads
+use Rattle.queue.proofs.Queues.deliver.Kinds as queue_deliver_kinds
+use Rattle.queue.proofs.Queues.deliver.Reads as queue_deliver_reads
 use Rattle.ranges.proofs.state_fits.Kinds as ranges_state_fits_kinds
 use Rattle.ranges.proofs.state_fits.Reads as ranges_state_fits_reads
 use Rattle.synchronizer.proofs.State.start.Kinds as synchronizer_start_kinds
@@ -201,6 +206,12 @@ same p q = p ∙ sym q
 
 -- ---- nodeset
 
+pub answers_number_one : OneResult _ answers_number_kinds.ps answers_number_kinds.r answers_number_reads.Post
+answers_number_one κs a x y s t p q = same p q
+
+pub nodeset_members_one : OneResult _ nodeset_members_kinds.ps nodeset_members_kinds.r nodeset_members_reads.Post
+nodeset_members_one κs a x y s t p q = same p q
+
 pub nodeset_contains_one : OneResult _ nodeset_contains_kinds.ps nodeset_contains_kinds.r nodeset_contains_reads.Post
 nodeset_contains_one κs a x y s t p q = same p q
 
@@ -227,9 +238,6 @@ network_with_sets_one κs a x y s t p q = same p q
 pub network_valid_one : OneResult _ network_valid_kinds.ps network_valid_kinds.r network_valid_reads.Post
 network_valid_one κs a x y s t p q = same p q
 
-pub network_at_most_one : OneResult _ network_at_most_kinds.ps network_at_most_kinds.r network_at_most_reads.Post
-network_at_most_one κs a x y s t p q = same p q
-
 pub network_pair_rises_one : OneResult _ network_pair_rises_kinds.ps network_pair_rises_kinds.r network_pair_rises_reads.Post
 network_pair_rises_one κs a x y s t p q = same p q
 
@@ -241,11 +249,8 @@ network_zeros_one κs a x y s t p q = same p q
 pub records_read_one : OneResult _ records_read_kinds.ps records_read_kinds.r records_read_reads.Post
 records_read_one κs a x y s t p q = same p q
 
-pub records_answer_one : OneResult _ records_answer_kinds.ps records_answer_kinds.r records_answer_reads.Post
-records_answer_one κs a x y s t p q = same p q
-
 pub records_read_lists_one : OneResult _ records_read_lists_kinds.ps records_read_lists_kinds.r records_read_lists_reads.Post
-records_read_lists_one κs a x y s t p q = same p q
+records_read_lists_one κs a x y s t p q = planned_of-injective x y (same p q)
 
 -- ---- links
 
@@ -259,9 +264,6 @@ links_has_link_one κs a x y s t p q = same p q
 
 pub tree_root_in_one : OneResult _ tree_root_in_kinds.ps tree_root_in_kinds.r tree_root_in_reads.Post
 tree_root_in_one κs a x y s t p q = same p q
-
-pub tree_root_number_one : OneResult _ tree_root_number_kinds.ps tree_root_number_kinds.r tree_root_number_reads.Post
-tree_root_number_one κs a x y s t p q = same p q
 
 pub tree_first_lost_one : OneResult _ tree_first_lost_kinds.ps tree_first_lost_kinds.r tree_first_lost_reads.Post
 tree_first_lost_one κs a x y s t p q = same p q
@@ -297,12 +299,15 @@ pub claims_parents_one : OneResult _ claims_parents_kinds.ps claims_parents_kind
 claims_parents_one κs a x y s t p q = same p q
 
 pub layout_layout_one : OneEnd _ layout_layout_kinds.ps layout_layout_kinds.r layout_layout_reads.Post (λ κs s. s.1.1.0.now)
-layout_layout_one κs a x y s t p q = (same p.0 q.0, same p.1.0 q.1.0)
+layout_layout_one κs a x y s t p q = (laid_of-injective x y (same p.0 q.0), same p.1.0 q.1.0)
 
 -- ---- plan
 
+pub answers_none_at_one : OneResult _ answers_none_at_kinds.ps answers_none_at_kinds.r answers_none_at_reads.Post
+answers_none_at_one κs a x y s t p q = same p q
+
 pub plan_read_plan_one : OneResult _ plan_read_plan_kinds.ps plan_read_plan_kinds.r plan_read_plan_reads.Post
-plan_read_plan_one κs a x y s t p q = same p.0 q.0
+plan_read_plan_one κs a x y s t p q = planned_of-injective x y (same p.0 q.0)
 
 -- ---- lockstep
 
@@ -310,7 +315,7 @@ pub lockstep_mean_one : OneResult _ lockstep_mean_kinds.ps lockstep_mean_kinds.r
 lockstep_mean_one κs a x y s t p q = same p q
 
 pub lockstep_table_one : OneEnd _ lockstep_table_kinds.ps lockstep_table_kinds.r lockstep_table_reads.Post (λ κs s. s.1.1.0.now)
-lockstep_table_one κs a x y s t p q = (same p.0.0 q.0.0, same p.0.1 q.0.1)
+lockstep_table_one κs a x y s t p q = (answer_of-injective x y (same p.0.0 q.0.0), same p.0.1 q.0.1)
 
 -- ---- actions
 
@@ -365,21 +370,24 @@ pub queue_first_one : OneResult _ queue_first_kinds.ps queue_first_kinds.r queue
 queue_first_one κs a x y s t p q = same p q
 
 pub queue_packet_first_one : OneResult _ queue_packet_first_kinds.ps queue_packet_first_kinds.r queue_packet_first_reads.Post
-queue_packet_first_one κs a x y s t p q = same p q
+queue_packet_first_one κs a x y s t p q = answer_of-injective x y (same p q)
 
 pub queue_ack_first_one : OneResult _ queue_ack_first_kinds.ps queue_ack_first_kinds.r queue_ack_first_reads.Post
-queue_ack_first_one κs a x y s t p q = same p q
+queue_ack_first_one κs a x y s t p q = answer_of-injective x y (same p q)
 
 pub queue_room_one : OneResult _ queue_room_kinds.ps queue_room_kinds.r queue_room_reads.Post
-queue_room_one κs a x y s t p q = same p q
+queue_room_one κs a x y s t p q = answer_of-injective x y (same p q)
 
-pub queue_push_one : OneEnd _ queue_push_kinds.ps queue_push_kinds.r queue_push_reads.Post (λ κs s. queues s.0.now s.1.0.now s.1.1.0.now)
+pub queue_push_one : OneEnd _ queue_push_kinds.ps queue_push_kinds.r queue_push_reads.Post (λ κs s. s.0.now)
 queue_push_one κs a x y s t p q = (refl, same p q)
 
-pub queue_pop_one : OneEnd _ queue_pop_kinds.ps queue_pop_kinds.r queue_pop_reads.Post (λ κs s. queues s.0.now s.1.0.now s.1.1.0.now)
+pub queue_send_one : OneEnd _ queue_send_kinds.ps queue_send_kinds.r queue_send_reads.Post (λ κs s. s.0.now)
+queue_send_one κs a x y s t p q = (refl, same p q)
+
+pub queue_pop_one : OneEnd _ queue_pop_kinds.ps queue_pop_kinds.r queue_pop_reads.Post (λ κs s. s.0.now)
 queue_pop_one κs a x y s t p q = (refl, same p q)
 
-pub queue_deliver_one : OneEnd _ queue_deliver_kinds.ps queue_deliver_kinds.r queue_deliver_reads.Post {C = Queues × List ℕ} (λ κs s. (queues s.0.now s.1.0.now s.1.1.0.now, s.1.1.1.0.now))
+pub queue_deliver_one : OneEnd _ queue_deliver_kinds.ps queue_deliver_kinds.r queue_deliver_reads.Post {C = Queues × List ℕ} (λ κs s. (s.0.now, s.1.0.now))
 queue_deliver_one κs a x y s t p q = (refl, λ i. (same p.0 q.0 i, same p.1 q.1 i))
 
 pub ranges_state_fits_one : OneResult _ ranges_state_fits_kinds.ps ranges_state_fits_kinds.r ranges_state_fits_reads.Post

@@ -15,7 +15,8 @@ use Rattle.laws.specs.Choice.{if_b, if_eq}
 use Rattle.laws.specs.Below.{list_below}
 use Rattle.laws.proofs.Choice.{if_lt_yes, if_eq_yes, if_eq_no}
 use Rattle.queue.specs.declared.Head.{Head}
-use Rattle.queue.specs.Queue.{head_of, Queues, queues, pushed, moved_up, popped}
+use Rattle.queue.specs.declared.Queues.{Queues}
+use Rattle.queue.specs.Queue.{head_of, queues, pushed, moved_up, popped}
 use Rattle.queue.specs.Queue as Code
 use Rattle.automaton.specs.Global.{Msg, packet, ack}
 use Rattle.automaton.specs.Answer.{must, packet_at_front, ack_at_front}

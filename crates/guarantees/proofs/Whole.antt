@@ -79,29 +79,29 @@ module _ (net : Network) (v : valid_network net ≡ true) (s t : State) (same : 
       subst (λ x. get_or s.slots (x * 2 + h) 0 ≡ get_or t.slots (x * 2 + h) 0) e
       (sym (if_b_yes (joins net p q) _ 0 j ∙ if_lt_yes h 2 _ 0 small) ∙ ap (λ g. g.slot p q h) same ∙ if_b_yes (joins net p q) _ 0 j ∙ if_lt_yes h 2 _ 0 small)
 
-  length_same : (d : ℕ) → d < net.links * 2 → get_or s.lens d 0 ≡ get_or t.lens d 0
+  length_same : (d : ℕ) → d < net.links * 2 → get_or s.queues.lens d 0 ≡ get_or t.queues.lens d 0
   unfolding waiting_in
   length_same d h = sym (length_list _ _) ∙ ap length (queue_same d h) ∙ length_list _ _
 
   module _ (cs : StateClauses net s) (ct : StateClauses net t) where
     -- ---- and the rest is 0
 
-    lens_same : (d : ℕ) → d < 256 → get_or s.lens d 0 ≡ get_or t.lens d 0
+    lens_same : (d : ℕ) → d < 256 → get_or s.queues.lens d 0 ≡ get_or t.queues.lens d 0
     lens_same d h = at (dec_lt d (net.links * 2))
       where
-        at : Dec (d < net.links * 2) → get_or s.lens d 0 ≡ get_or t.lens d 0
+        at : Dec (d < net.links * 2) → get_or s.queues.lens d 0 ≡ get_or t.queues.lens d 0
         at (yes used) = length_same d used
         at (no past) = cs.rest.no_queue d (omega arith) h ∙ sym (ct.rest.no_queue d (omega arith) h)
 
     -- the sort and the load of a waiting message, from what is read of it
-    waiting_same : (d j : ℕ) → d < net.links * 2 → j < get_or s.lens d 0 → (get_or s.sorts (d * 2 + j) 0 ≡ get_or t.sorts (d * 2 + j) 0) × (get_or s.loads (d * 2 + j) 0 ≡ get_or t.loads (d * 2 + j) 0)
+    waiting_same : (d j : ℕ) → d < net.links * 2 → j < get_or s.queues.lens d 0 → (get_or s.queues.sorts (d * 2 + j) 0 ≡ get_or t.queues.sorts (d * 2 + j) 0) × (get_or s.queues.loads (d * 2 + j) 0 ≡ get_or t.queues.loads (d * 2 + j) 0)
     unfolding waiting_in message_of
     waiting_same d j used h =
         by (cs.queues.packet_or_ack d j used h) (ct.queues.packet_or_ack d j used (omega (arith, length_same d used)))
       where
-        read_as : message_of (get_or s.sorts (d * 2 + j) 0) (get_or s.loads (d * 2 + j) 0) ≡ message_of (get_or t.sorts (d * 2 + j) 0) (get_or t.loads (d * 2 + j) 0)
+        read_as : message_of (get_or s.queues.sorts (d * 2 + j) 0) (get_or s.queues.loads (d * 2 + j) 0) ≡ message_of (get_or t.queues.sorts (d * 2 + j) 0) (get_or t.queues.loads (d * 2 + j) 0)
         read_as =
-            sym (list_at _ (get_or s.lens d 0) j ack h) ∙ ap (λ l. get_or l j ack) (queue_same d used) ∙ list_at _ (get_or t.lens d 0) j ack (omega (arith, length_same d used))
+            sym (list_at _ (get_or s.queues.lens d 0) j ack h) ∙ ap (λ l. get_or l j ack) (queue_same d used) ∙ list_at _ (get_or t.queues.lens d 0) j ack (omega (arith, length_same d used))
 
         a_packet_lem : (sort load : ℕ) → sort ≡ 1 → message_of sort load ≡ packet load
         a_packet_lem sort load e = if_eq_yes sort 1 (packet load) ack e
@@ -109,31 +109,31 @@ module _ (net : Network) (v : valid_network net ≡ true) (s t : State) (same : 
         an_ack_lem : (sort load : ℕ) → sort ≡ 2 → message_of sort load ≡ ack
         an_ack_lem sort load e = if_eq_no sort 1 (packet load) ack (λ o. omega arith)
 
-        by : (get_or s.sorts (d * 2 + j) 0 ≡ 1) ⊎ ((get_or s.sorts (d * 2 + j) 0 ≡ 2) × (get_or s.loads (d * 2 + j) 0 ≡ 0))
-            → (get_or t.sorts (d * 2 + j) 0 ≡ 1) ⊎ ((get_or t.sorts (d * 2 + j) 0 ≡ 2) × (get_or t.loads (d * 2 + j) 0 ≡ 0))
-            → (get_or s.sorts (d * 2 + j) 0 ≡ get_or t.sorts (d * 2 + j) 0) × (get_or s.loads (d * 2 + j) 0 ≡ get_or t.loads (d * 2 + j) 0)
+        by : (get_or s.queues.sorts (d * 2 + j) 0 ≡ 1) ⊎ ((get_or s.queues.sorts (d * 2 + j) 0 ≡ 2) × (get_or s.queues.loads (d * 2 + j) 0 ≡ 0))
+            → (get_or t.queues.sorts (d * 2 + j) 0 ≡ 1) ⊎ ((get_or t.queues.sorts (d * 2 + j) 0 ≡ 2) × (get_or t.queues.loads (d * 2 + j) 0 ≡ 0))
+            → (get_or s.queues.sorts (d * 2 + j) 0 ≡ get_or t.queues.sorts (d * 2 + j) 0) × (get_or s.queues.loads (d * 2 + j) 0 ≡ get_or t.queues.loads (d * 2 + j) 0)
         by (inl a) (inl b) =
-            let one : packet (get_or s.loads (d * 2 + j) 0) ≡ packet (get_or t.loads (d * 2 + j) 0) = sym (a_packet_lem _ _ a) ∙ read_as ∙ a_packet_lem _ _ b in
+            let one : packet (get_or s.queues.loads (d * 2 + j) 0) ≡ packet (get_or t.queues.loads (d * 2 + j) 0) = sym (a_packet_lem _ _ a) ∙ read_as ∙ a_packet_lem _ _ b in
             (a ∙ sym b, cc)
         by (inr a) (inr b) = (a.0 ∙ sym b.0, a.1 ∙ sym b.1)
         by (inl a) (inr b) =
-            let one : packet (get_or s.loads (d * 2 + j) 0) ≡ ack = sym (a_packet_lem _ _ a) ∙ read_as ∙ an_ack_lem _ _ b.0 in
+            let one : packet (get_or s.queues.loads (d * 2 + j) 0) ≡ ack = sym (a_packet_lem _ _ a) ∙ read_as ∙ an_ack_lem _ _ b.0 in
             let z : ◌≡◌ {A = ℕ} 0 1 = cc in
             absurd (omega arith)
         by (inr a) (inl b) =
-            let one : ack ≡ packet (get_or t.loads (d * 2 + j) 0) = sym (an_ack_lem _ _ a.0) ∙ read_as ∙ a_packet_lem _ _ b in
+            let one : ack ≡ packet (get_or t.queues.loads (d * 2 + j) 0) = sym (an_ack_lem _ _ a.0) ∙ read_as ∙ a_packet_lem _ _ b in
             let z : ◌≡◌ {A = ℕ} 0 1 = cc in
             absurd (omega arith)
 
-    message_same : (d j : ℕ) → d < 256 → j < 2 → (get_or s.sorts (d * 2 + j) 0 ≡ get_or t.sorts (d * 2 + j) 0) × (get_or s.loads (d * 2 + j) 0 ≡ get_or t.loads (d * 2 + j) 0)
-    message_same d j h small = at (dec_lt j (get_or s.lens d 0)) (dec_lt d (net.links * 2))
+    message_same : (d j : ℕ) → d < 256 → j < 2 → (get_or s.queues.sorts (d * 2 + j) 0 ≡ get_or t.queues.sorts (d * 2 + j) 0) × (get_or s.queues.loads (d * 2 + j) 0 ≡ get_or t.queues.loads (d * 2 + j) 0)
+    message_same d j h small = at (dec_lt j (get_or s.queues.lens d 0)) (dec_lt d (net.links * 2))
       where
-        at : Dec (j < get_or s.lens d 0) → Dec (d < net.links * 2) → (get_or s.sorts (d * 2 + j) 0 ≡ get_or t.sorts (d * 2 + j) 0) × (get_or s.loads (d * 2 + j) 0 ≡ get_or t.loads (d * 2 + j) 0)
+        at : Dec (j < get_or s.queues.lens d 0) → Dec (d < net.links * 2) → (get_or s.queues.sorts (d * 2 + j) 0 ≡ get_or t.queues.sorts (d * 2 + j) 0) × (get_or s.queues.loads (d * 2 + j) 0 ≡ get_or t.queues.loads (d * 2 + j) 0)
         at (yes waits) (yes used) = waiting_same d j used waits
         at (yes waits) (no past) = absurd (omega (arith, cs.rest.no_queue d (omega arith) h))
         at (no free) _ =
-            let fs : get_or s.lens d 0 ≤ j = omega arith in
-            let ft : get_or t.lens d 0 ≤ j = omega (arith, lens_same d h) in
+            let fs : get_or s.queues.lens d 0 ≤ j = omega arith in
+            let ft : get_or t.queues.lens d 0 ≤ j = omega (arith, lens_same d h) in
             (cs.rest.no_sort d j h fs small ∙ sym (ct.rest.no_sort d j h ft small), cs.rest.no_load d j h fs small ∙ sym (ct.rest.no_load d j h ft small))
 
     slots_same : (d j : ℕ) → d < 256 → j < 2 → get_or s.slots (d * 2 + j) 0 ≡ get_or t.slots (d * 2 + j) 0
@@ -167,9 +167,11 @@ module _ (net : Network) (v : valid_network net ≡ true) (s t : State) (same : 
     unfolding read
     whole zs zt = λ i. record {
       counts = by_rows s.counts t.counts zs.counts zt.counts counts_same i;
-      lens = ext_get_or 0 s.lens t.lens (zs.lens ∙ sym zt.lens) (λ d h. lens_same d (omega (arith, zs.lens))) i;
-      sorts = by_pairs s.sorts t.sorts zs.sorts zt.sorts (λ d j h small. (message_same d j h small).0) i;
-      loads = by_pairs s.loads t.loads zs.loads zt.loads (λ d j h small. (message_same d j h small).1) i;
+      queues = record {
+        lens = ext_get_or 0 s.queues.lens t.queues.lens (zs.lens ∙ sym zt.lens) (λ d h. lens_same d (omega (arith, zs.lens))) i;
+        sorts = by_pairs s.queues.sorts t.queues.sorts zs.sorts zt.sorts (λ d j h small. (message_same d j h small).0) i;
+        loads = by_pairs s.queues.loads t.queues.loads zs.loads zt.loads (λ d j h small. (message_same d j h small).1) i;
+      };
       slots = by_pairs s.slots t.slots zs.slots zt.slots slots_same i;
       values = ext_get_or 0 s.values t.values (zs.values ∙ sym zt.values) (λ p _. ap (λ g. g.value p) same) i;
     }

@@ -30,13 +30,13 @@ pub record StateFits (net : Network) (s : State) : Type 0 where
   -- "a count is above rounds"
   pub counts : (a : Act) → count_of net s a ≤ net.rounds
   -- "a queue is said to hold more than two; a waiting message is neither packet nor ack, or is an ack with a value"
-  pub at_most_two : (d : ℕ) → d < net.links * 2 → get_or s.lens d 0 ≤ 2
-  pub packet_or_ack : (d j : ℕ) → d < net.links * 2 → j < get_or s.lens d 0 → (get_or s.sorts (d * 2 + j) 0 ≡ 1) ⊎ ((get_or s.sorts (d * 2 + j) 0 ≡ 2) × (get_or s.loads (d * 2 + j) 0 ≡ 0))
+  pub at_most_two : (d : ℕ) → d < net.links * 2 → get_or s.queues.lens d 0 ≤ 2
+  pub packet_or_ack : (d j : ℕ) → d < net.links * 2 → j < get_or s.queues.lens d 0 → (get_or s.queues.sorts (d * 2 + j) 0 ≡ 1) ⊎ ((get_or s.queues.sorts (d * 2 + j) 0 ≡ 2) × (get_or s.queues.loads (d * 2 + j) 0 ≡ 0))
   -- "an entry past the node or link count, or past a queue's length, is not 0"
   pub no_count : (a : Act) (x : ℕ) → places_of net a ≤ x → x < 256 → get_or s.counts (cell_at a x) 0 ≡ 0
-  pub no_queue : (d : ℕ) → net.links * 2 ≤ d → d < 256 → get_or s.lens d 0 ≡ 0
-  pub no_sort : (d j : ℕ) → d < 256 → get_or s.lens d 0 ≤ j → j < 2 → get_or s.sorts (d * 2 + j) 0 ≡ 0
-  pub no_load : (d j : ℕ) → d < 256 → get_or s.lens d 0 ≤ j → j < 2 → get_or s.loads (d * 2 + j) 0 ≡ 0
+  pub no_queue : (d : ℕ) → net.links * 2 ≤ d → d < 256 → get_or s.queues.lens d 0 ≡ 0
+  pub no_sort : (d j : ℕ) → d < 256 → get_or s.queues.lens d 0 ≤ j → j < 2 → get_or s.queues.sorts (d * 2 + j) 0 ≡ 0
+  pub no_load : (d j : ℕ) → d < 256 → get_or s.queues.lens d 0 ≤ j → j < 2 → get_or s.queues.loads (d * 2 + j) 0 ≡ 0
   pub no_slot : (d j : ℕ) → net.links * 2 ≤ d → d < 256 → j < 2 → get_or s.slots (d * 2 + j) 0 ≡ 0
   pub no_value : (p : ℕ) → net.nodes ≤ p → p < 64 → get_or s.values p 0 ≡ 0
 

@@ -4,7 +4,7 @@ use Rattle.std.specs.Prelude.{ℕ, zero, suc, ◌+◌, ◌<◌, ◌≤◌, ◌�
 use Rattle.laws.specs.Below.{pick_below}
 use Rattle.network.specs.declared.Network.{Network}
 use Rattle.network.specs.Valid.{Clauses}
-use Rattle.records.specs.declared.Planned.{Planned}
+use Rattle.records.specs.Planned.{Planned}
 use Rattle.records.specs.Plan.{network_of}
 use Rattle.records.specs.Keeps.{no_plan}
 use Rattle.automaton.specs.Actions.{Act, output, input}
@@ -34,7 +34,12 @@ pub data PlanPromise (bytes : List ℕ) (r : Planned) : Type 0 where
 -- no action taken, nothing waiting and nothing heard
 abbrev pub fresh : List ℕ → State
 fresh values =
-    record { counts = replicate 5120 0; lens = replicate 256 0; sorts = replicate 512 0; loads = replicate 512 0; slots = replicate 512 0; values = values }
+    record {
+      counts = replicate 5120 0;
+      queues = record { lens = replicate 256 0; sorts = replicate 512 0; loads = replicate 512 0 };
+      slots = replicate 512 0;
+      values = values;
+    }
 
 pub data StartPromise (net : Network) (r : Done) : Type 0 where
   -- "In the start state all counts and slots are 0, queues are empty and values are the plan's"

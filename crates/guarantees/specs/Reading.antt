@@ -77,7 +77,7 @@ message_of sort load = if_eq sort 1 (packet load) ack
 
 -- what waits in direction d, the first at the head
 unfoldable pub waiting_in : State → ℕ → List (Msg ℕ)
-waiting_in s d = list_below (λ j. message_of (get_or s.sorts (d * 2 + j) 0) (get_or s.loads (d * 2 + j) 0)) (get_or s.lens d 0)
+waiting_in s d = list_below (λ j. message_of (get_or s.queues.sorts (d * 2 + j) 0) (get_or s.queues.loads (d * 2 + j) 0)) (get_or s.queues.lens d 0)
 
 unfoldable pub read : Network → State → Global ℕ
 read net s =

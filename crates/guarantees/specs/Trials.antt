@@ -2,7 +2,7 @@
 -- gives. `proofs/Trials.antt` shows that the definitions of the public contracts give every row.
 -- Assumes nothing.
 use Rattle.std.specs.Prelude.{ℕ, List, [], ◌∷◌, ◌++◌, take, replicate}
-use Rattle.records.specs.declared.Planned.{Planned}
+use Rattle.records.specs.Planned.{Planned}
 use Rattle.plan.specs.Checks.{plan_of}
 use Rattle.lockstep.specs.Table.{table_of}
 use Rattle.synchronizer.specs.declared.Ran.{Ran}
