@@ -4,14 +4,16 @@
 // found by the numbers of the two nodes, and no list of directions is kept. What is proved of it is
 // that every call is safe and ends, for every argument. That it is right is for a comparison to show.
 //
-// The caller lends two memories, which `second_plan::memory` describes: a network, `[usize; PLAN]`,
-// and a state, `[u16; WORLD]`. Both may hold anything. Plans are read by `second_plan::read_plan`.
+// The caller lends two memories: a network, `second_plan::rows::Plan`, and a state,
+// `second_plan::sheets::World`. Both may hold anything. Plans are read by `second_plan::read_plan`.
+// They stay two parameters in every function: the one is only read and the other changed, and a
+// struct of both would be made anew at each call.
 //
 //   network_outside             whether 17 applies to a network
 //   state_outside               whether 17 applies to a network or to a state of it
-//   start                       the start state: answers 0 and 17
-//   table                       the lockstep table: answers 0, 17, 20 and 21
-//   act                         the action at a place of a byte string: 0, 11 to 16 and 18
+//   start                       the start state: refusal 17
+//   table                       the lockstep table: refusals 17, 20 and 21
+//   act                         the action at a place of a byte string: refusals 11 to 16 and 18
 //   single_action               a single action handed in: the same, and 17
 //   run_actions                 a list of actions: the same, and 17
 //
@@ -22,6 +24,7 @@
 // nodes have no link, as (p, p) always is.
 #![tactic(auto)]
 
+mod action;
 mod lists;
 mod needs;
 mod ranges;

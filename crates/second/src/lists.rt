@@ -2,103 +2,59 @@
 
 ghost use Rattle.std.specs.Prelude.{◌≤◌};
 
+use crate::action::Action;
 use crate::ranges::state_outside;
 use crate::taking::take;
-use second_plan::answers::*;
-use second_plan::bytes::{after, byte, cut_short};
-use second_plan::memory::*;
+use second_plan::answers::{Ran, Refusal, Refused, Stopped};
+use second_plan::bytes::after;
+use second_plan::rows::Plan;
+use second_plan::sheets::World;
 
-fn body(kind: usize) -> usize
-    ensures { result ≤ 2 }
-{
-    if of_directions(kind) {
-        return 2;
-    }
-    1
+// Takes the action at `at`, or refuses it by 11 to 16 or 18.
+fn take_at(plan: &Plan, world: &mut World, bytes: &[u8], at: usize) -> Result<Action, Refusal> {
+    let action = Action::read(bytes.get(at..).unwrap_or(&[]))?;
+    take(plan, world, action)?;
+    Ok(action)
 }
 
-fn kind_at(bytes: &[u8], at: usize) -> usize {
-    byte(bytes, at, 0)
+// The action at `at`: refusals 11 to 16 and 18. It does not ask whether 17 applies.
+pub fn act(plan: &Plan, world: &mut World, bytes: &[u8], at: usize) -> Result<(), Refusal> {
+    take_at(plan, world, bytes, at).map(|_| ())
 }
 
-fn first_number(bytes: &[u8], at: usize) -> usize {
-    byte(bytes, at, 1)
-}
-
-// The second number of an action of two, the only one of an action of one.
-fn last_number(bytes: &[u8], at: usize) -> usize {
-    byte(bytes, at, body(kind_at(bytes, at)))
-}
-
-// Whether a whole action stands at `at`: answers 0, 11 and 12.
-fn form(bytes: &[u8], at: usize) -> u8 {
-    let kind = kind_at(bytes, at);
-    if at >= bytes.len() {
-        return CUT_ACTION;
-    }
-    if kind < OUTPUT {
-        return UNKNOWN_ACTION;
-    }
-    if kind > INPUT {
-        return UNKNOWN_ACTION;
-    }
-    if cut_short(bytes, at, body(kind)) {
-        return CUT_ACTION;
-    }
-    ACCEPTED
-}
-
-// The action at `at`: answers 0, 11 to 16 and 18. It does not ask whether 17 applies.
-pub fn act(plan: &Plan, world: &mut World, bytes: &[u8], at: usize) -> u8 {
-    let number = form(bytes, at);
-    if number != ACCEPTED {
-        return number;
-    }
-    let kind = kind_at(bytes, at);
-    let p = first_number(bytes, at);
-    let q = last_number(bytes, at);
-    take(plan, world, kind, p, q)
-}
-
-// "A single action handed in": every refusal has place 0, and bytes after it are not read.
-pub fn single_action(plan: &Plan, world: &mut World, bytes: &[u8]) -> Answer {
+// "A single action handed in": how long it is. Every refusal has place 0, and bytes after it are
+// not read.
+pub fn single_action(plan: &Plan, world: &mut World, bytes: &[u8]) -> Result<usize, Refused> {
     if state_outside(plan, world) {
-        return answered(OUTSIDE, 0);
+        return Err(Refusal::Outside.at(0));
     }
-    let number = act(plan, world, bytes, 0);
-    if number != ACCEPTED {
-        return answered(number, 0);
-    }
-    Answer {
-        number,
-        place: 1 + body(kind_at(bytes, 0)),
-        taken: 1,
-    }
+    take_at(plan, world, bytes, 0)
+        .map(|action| 1 + action.body())
+        .map_err(|refusal| refusal.at(0))
 }
 
 // "A list of actions stops at the first refusal and answers its number, its place and how many
 // were taken; the state is that after those taken."
-pub fn run_actions(plan: &Plan, world: &mut World, bytes: &[u8]) -> Answer {
-    let mut at = 0;
+pub fn run_actions(plan: &Plan, world: &mut World, bytes: &[u8]) -> Result<Ran, Stopped> {
+    let mut place = 0;
     let mut taken = 0;
     if state_outside(plan, world) {
-        return answered(OUTSIDE, 0);
+        return Err(Stopped {
+            refusal: Refusal::Outside,
+            place,
+            taken,
+        });
     }
-    while at < bytes.len() {
-        let number = act(plan, world, bytes, at);
-        if number != ACCEPTED {
-            return Answer {
-                number,
-                place: at,
-                taken,
-            };
-        }
-        at = after(at, body(kind_at(bytes, at)), bytes.len());
+
+    // a `while`, since each action says where the next one starts
+    while place < bytes.len() {
+        let action = take_at(plan, world, bytes, place).map_err(|refusal| Stopped {
+            refusal,
+            place,
+            taken,
+        })?;
+        place = after(place, action.body(), bytes.len());
         taken += 1;
     }
-    Answer {
-        number: ACCEPTED,
-        place: at,
-        taken,
-    }
+    Ok(Ran { place, taken })
 }

@@ -1,164 +1,127 @@
 // Answer 17: a handed-in network or state outside the ranges. Both memories are walked whole, so
 // that what stands past the nodes, past the links or past a queue's length is seen too.
 
-use second_plan::memory::*;
-use second_plan::nodes::{enter_sets, linked};
-use second_plan::rises;
+use second_plan::rows::{MOST_LINKS, MOST_NODES, MOST_ROUNDS, Plan, Row};
+use second_plan::sheets::{Message, Place, Sheet, World};
 
 // "nodes, links or rounds are outside their limits"
 fn head_outside(plan: &Plan) -> bool {
-    let nodes = entry(plan, HEAD, NODES);
-    let rounds = entry(plan, HEAD, ROUNDS);
-    if nodes == 0 {
-        return true;
-    }
-    if nodes > MOST_NODES {
-        return true;
-    }
-    if entry(plan, HEAD, LINKS) > MOST_LINKS {
-        return true;
-    }
-    if rounds == 0 {
-        return true;
-    }
-    rounds > MOST_ROUNDS
+    let nodes = plan.nodes();
+    let rounds = plan.rounds();
+    nodes == 0
+        || nodes > MOST_NODES
+        || plan.links() > MOST_LINKS
+        || rounds == 0
+        || rounds > MOST_ROUNDS
 }
 
 // "a link has a not below b, or links do not rise strictly"
 fn link_outside(plan: &Plan, l: usize) -> bool {
-    let a = entry(plan, LOW, l);
-    let b = entry(plan, HIGH, l);
-    if a >= b {
-        return true;
-    }
-    if l == 0 {
-        return false;
-    }
-    !rises(a, b, entry(plan, LOW, l - 1), entry(plan, HIGH, l - 1))
+    let (a, b) = plan.ends(l);
+    a >= b || (l > 0 && plan.ends(l - 1) >= (a, b))
 }
 
 // "a link end or parent is not below the node count, or a flag is above 1"; "a neighbour or child
 // set, or any other derived fact, kept beside the list differs from what the list gives". A start
 // value is of two bytes, and an entry has room for more.
-fn entry_outside(plan: &Plan, derived: &Plan, row: usize, i: usize) -> bool {
-    let x = entry(plan, row, i);
+fn entry_outside(plan: &Plan, derived: &Plan, row: Row, i: usize) -> bool {
+    let x = plan.entry(row, i);
     match row {
-        PARENT | HIGH => x >= entry(plan, HEAD, NODES),
-        START => x > 65535,
-        NEIGHBOURS..=PREFERRED => x != entry(derived, row, i),
-        LOW => link_outside(plan, i),
-        _ => x > 1,
+        Row::Parent | Row::High => x >= plan.nodes(),
+        Row::Start => x > usize::from(u16::MAX),
+        Row::Neighbours | Row::Children | Row::Preferred => x != derived.entry(row, i),
+        Row::Low => link_outside(plan, i),
+        Row::Head | Row::Flag => x > 1,
     }
-}
-
-// How many places of a row are in use.
-fn used(plan: &Plan, row: usize) -> usize {
-    if row < LOW {
-        return entry(plan, HEAD, NODES);
-    }
-    entry(plan, HEAD, LINKS)
 }
 
 // "an entry past the node or link count .. is not 0"
-fn wrong_entry(plan: &Plan, derived: &Plan, row: usize, i: usize) -> bool {
-    if i < used(plan, row) {
-        return entry_outside(plan, derived, row, i);
+fn wrong_entry(plan: &Plan, derived: &Plan, row: Row, i: usize) -> bool {
+    if i < plan.used(row) {
+        entry_outside(plan, derived, row, i)
+    } else {
+        plan.entry(row, i) > 0
     }
-    entry(plan, row, i) > 0
 }
 
+// In any row but that of the limits.
 fn any_wrong_entry(plan: &Plan, derived: &Plan) -> bool {
-    for i in MOST_LINKS..PLAN {
-        if wrong_entry(plan, derived, i / MOST_LINKS, i % MOST_LINKS) {
-            return true;
-        }
-    }
-    false
+    Row::ALL.iter().skip(1).any(|&row| (0..MOST_LINKS).any(|i| wrong_entry(plan, derived, row, i)))
 }
 
-// Takes all sets away.
-fn clear_sets(plan: &mut Plan) {
-    for p in 0..MOST_LINKS {
-        set_entry(plan, NEIGHBOURS, p, 0);
-        set_entry(plan, CHILDREN, p, 0);
-        set_entry(plan, PREFERRED, p, 0);
-    }
+// The network with the sets that its lists give.
+fn derived_from(plan: &Plan) -> Plan {
+    let mut derived = *plan;
+    derived.clear(Row::Neighbours);
+    derived.clear(Row::Children);
+    derived.clear(Row::Preferred);
+    derived.enter_sets();
+    derived
 }
 
 // Whether 17 applies to a network.
 pub fn network_outside(plan: &Plan) -> bool {
-    if head_outside(plan) {
-        return true;
-    }
-    let mut derived = *plan;
-    clear_sets(&mut derived);
-    enter_sets(&mut derived);
-    any_wrong_entry(plan, &derived)
+    head_outside(plan) || any_wrong_entry(plan, &derived_from(plan))
 }
 
 // Whether the network has the direction or the node that a cell is for.
-fn in_use(plan: &Plan, sheet: usize, p: usize, q: usize) -> bool {
-    if of_directions(sheet) {
-        return linked(plan, p, q);
+fn in_use(plan: &Plan, sheet: Sheet, p: usize, q: usize) -> bool {
+    if sheet.is_of_directions() {
+        plan.marked(Row::Neighbours, p, q)
+    } else {
+        p == q && p < plan.nodes()
     }
-    if p == q {
-        return p < entry(plan, HEAD, NODES);
-    }
-    false
 }
 
 // "a waiting message is neither packet nor ack, or is an ack with a value; an entry .. past a
 // queue's length, is not 0"
 fn message_outside(waits: bool, sort: u16, load: u16) -> bool {
-    if waits {
-        if sort == ACK {
-            return load > 0;
-        }
-        return sort != PACKET;
+    if !waits {
+        return sort > 0 || load > 0;
     }
-    if sort > 0 {
-        return true;
+    if sort == Message::Ack.number() {
+        load > 0
+    } else {
+        sort != Message::Packet.number()
     }
-    load > 0
+}
+
+// Whether a place of the queue p to q holds what it may not.
+fn place_outside(world: &World, place: Place, p: usize, q: usize) -> bool {
+    let waiting = world.cell(Sheet::Queued, p, q);
+    let waits = match place {
+        Place::First => waiting > 0,
+        Place::Second => waiting > 1,
+    };
+    let sort = world.cell(Sheet::Sort(place), p, q);
+    message_outside(waits, sort, world.cell(Sheet::Load(place), p, q))
 }
 
 // A load is looked at beside its sort. Slots and values have every number of two bytes.
-fn cell_outside(plan: &Plan, world: &World, sheet: usize, p: usize, q: usize) -> bool {
-    let waiting = cell(world, QUEUED, p, q);
-    let sort = cell(world, sheet, p, q);
-    if sheet <= INPUT {
-        return count(world, sheet, p, q) > entry(plan, HEAD, ROUNDS);
-    }
+fn cell_outside(plan: &Plan, world: &World, sheet: Sheet, p: usize, q: usize) -> bool {
     match sheet {
-        QUEUED => waiting > 2,
-        SORT => message_outside(waiting > 0, sort, cell(world, LOAD, p, q)),
-        SECOND_SORT => message_outside(waiting > 1, sort, cell(world, SECOND_LOAD, p, q)),
-        _ => false,
+        Sheet::Count(kind) => world.count(kind, p, q) > plan.rounds(),
+        Sheet::Queued => world.cell(sheet, p, q) > 2,
+        Sheet::Sort(place) => place_outside(world, place, p, q),
+        Sheet::Load(_) | Sheet::Slot(_) | Sheet::Value => false,
     }
 }
 
-fn wrong_cell(plan: &Plan, world: &World, sheet: usize, p: usize, q: usize) -> bool {
+fn wrong_cell(plan: &Plan, world: &World, sheet: Sheet, p: usize, q: usize) -> bool {
     if in_use(plan, sheet, p, q) {
-        return cell_outside(plan, world, sheet, p, q);
+        cell_outside(plan, world, sheet, p, q)
+    } else {
+        world.cell(sheet, p, q) > 0
     }
-    cell(world, sheet, p, q) > 0
 }
 
 fn any_wrong_cell(plan: &Plan, world: &World) -> bool {
-    for i in 0..WORLD {
-        let sheet = OUTPUT + i / SHEET;
-        let p = i / MOST_NODES % MOST_NODES;
-        if wrong_cell(plan, world, sheet, p, i % MOST_NODES) {
-            return true;
-        }
-    }
-    false
+    Sheet::ALL.iter().any(|&sheet| {
+        (0..MOST_NODES).any(|p| (0..MOST_NODES).any(|q| wrong_cell(plan, world, sheet, p, q)))
+    })
 }
 
 // Whether 17 applies to a network or to a state of it.
 pub fn state_outside(plan: &Plan, world: &World) -> bool {
-    if network_outside(plan) {
-        return true;
-    }
-    any_wrong_cell(plan, world)
+    network_outside(plan) || any_wrong_cell(plan, world)
 }

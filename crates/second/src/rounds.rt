@@ -1,38 +1,16 @@
 // The value of a round, the start state and the lockstep table.
 
-ghost use Rattle.std.specs.Prelude.{◌*◌, ◌<◌, ◌≤◌, length};
+ghost use Rattle.std.specs.Prelude.{◌*◌, ◌<◌, ◌≤◌};
 
 use crate::ranges::network_outside;
-use second_plan::answers::*;
-use second_plan::memory::*;
-use second_plan::nodes::linked;
+use second_plan::answers::Refusal;
+use second_plan::rows::{MOST_NODES, Plan, Row};
+use second_plan::sheets::{Parity, Sheet, World};
+use std::cmp::Ordering;
 
 // A number of two bytes. A larger one is no start value and no mean.
 fn narrow(x: usize) -> u16 {
-    if x < 65536 {
-        return x as u16;
-    }
-    65535
-}
-
-// 1 if q is a neighbour of p, else 0.
-fn neighbours_at(plan: &Plan, p: usize, q: usize) -> usize
-    ensures { result ≤ 1 }
-{
-    if linked(plan, p, q) {
-        return 1;
-    }
-    0
-}
-
-// What p heard from q if q is a neighbour, else 0.
-fn heard_from(plan: &Plan, world: &World, slot: usize, p: usize, q: usize) -> usize
-    ensures { result < 65536 }
-{
-    if linked(plan, q, p) {
-        return count(world, slot, q, p);
-    }
-    0
+    u16::try_from(x).unwrap_or(u16::MAX)
 }
 
 // "round to the nearest whole number, a half going to the even one": of the two whole numbers beside
@@ -45,74 +23,72 @@ fn nearest(sum: usize, count: usize) -> usize
     let reached = below * count;
     let too_low = sum - reached;
     let too_high = reached + count - sum;
-    if too_low < too_high {
-        return below;
+    match too_low.cmp(&too_high) {
+        Ordering::Less => below,
+        Ordering::Greater => above,
+        Ordering::Equal => below + below % 2,
     }
-    if too_high < too_low {
-        return above;
-    }
-    if below % 2 == 0 {
-        return below;
-    }
-    above
+}
+
+// How many neighbours p has.
+fn neighbours(plan: &Plan, p: usize) -> usize
+    ensures { result ≤ 64 }
+{
+    (0..MOST_NODES)
+        .filter(|&q| plan.marked(Row::Neighbours, p, q))
+        .count()
 }
 
 // "(own value + the values in the slots .. from each neighbour) divided by (1 + number of
 // neighbours)"
-fn mean(plan: &Plan, world: &World, slot: usize, p: usize) -> u16 {
-    let mut sum = count(world, VALUE, p, p);
-    let mut neighbours = 0usize;
+fn mean(plan: &Plan, world: &World, slot: Parity, p: usize) -> u16 {
+    let mut sum = usize::from(world.cell(Sheet::Value, p, p));
+
+    // a loop, since the proof that a chain's `sum` fits did not close
     for q in 0..MOST_NODES {
-        sum += heard_from(plan, world, slot, p, q);
-        neighbours += neighbours_at(plan, p, q);
+        if plan.marked(Row::Neighbours, q, p) {
+            sum += usize::from(world.cell(Sheet::Slot(slot), q, p));
+        }
     }
-    narrow(nearest(sum, 1 + neighbours))
+    narrow(nearest(sum, 1 + neighbours(plan, p)))
 }
 
 // "Input i of p sets its value to" the mean over the slots of i's parity.
-pub(crate) fn input(plan: &Plan, world: &mut World, slot: usize, p: usize) {
+pub(crate) fn input(plan: &Plan, world: &mut World, slot: Parity, p: usize) {
     let next = mean(plan, world, slot, p);
-    set_cell(world, VALUE, p, p, next);
+    world.set_cell(Sheet::Value, p, p, next);
 }
 
 fn enter_start_values(plan: &Plan, world: &mut World) {
     for p in 0..MOST_NODES {
-        set_cell(world, VALUE, p, p, narrow(entry(plan, START, p)));
-    }
-}
-
-// "Table entries past the node count are not written."
-fn hand_out(world: &World, nodes: usize, out: &mut [u16])
-    requires { nodes ≤ length out.old }
-{
-    for p in 0..nodes {
-        out[p] = cell(world, VALUE, p, p);
+        world.set_cell(Sheet::Value, p, p, narrow(plan.entry(Row::Start, p)));
     }
 }
 
 // "In the start state all counts and slots are 0, queues are empty and values are the plan's."
 // "a start state refused by 17 is all zeros"
-pub fn start(plan: &Plan, world: &mut World) -> u8 {
-    *world = [0u16; WORLD];
+pub fn start(plan: &Plan, world: &mut World) -> Result<(), Refusal> {
+    *world = World::zeros();
     if network_outside(plan) {
-        return OUTSIDE;
+        return Err(Refusal::Outside);
     }
     enter_start_values(plan, world);
-    ACCEPTED
+    Ok(())
 }
 
 // Every node's value goes to every other, whether or not they are linked.
 fn tell_all(world: &mut World) {
-    for i in 0..SHEET {
-        let p = i / MOST_NODES;
-        let value = cell(world, VALUE, p, p);
-        set_cell(world, EVEN_SLOT, p, i % MOST_NODES, value);
+    for p in 0..MOST_NODES {
+        let value = world.cell(Sheet::Value, p, p);
+        for q in 0..MOST_NODES {
+            world.set_cell(Sheet::Slot(Parity::Even), p, q, value);
+        }
     }
 }
 
 fn input_all(plan: &Plan, world: &mut World) {
     for p in 0..MOST_NODES {
-        input(plan, world, EVEN_SLOT, p);
+        input(plan, world, Parity::Even, p);
     }
 }
 
@@ -124,20 +100,25 @@ fn lockstep(plan: &Plan, world: &mut World, rounds: usize) {
     }
 }
 
-// The lockstep table of some rounds in a lent buffer: answers 0, 17, 20 and 21.
-pub fn table(plan: &Plan, rounds: usize, out: &mut [u16]) -> u8 {
-    let mut world = [0u16; WORLD];
-    if start(plan, &mut world) != ACCEPTED {
-        return OUTSIDE;
+fn hand_out(world: &World, out: &mut [u16]) {
+    for (p, value) in out.iter_mut().enumerate() {
+        *value = world.cell(Sheet::Value, p, p);
     }
-    if rounds > entry(plan, HEAD, ROUNDS) {
-        return TOO_MANY_ROUNDS;
+}
+
+// The lockstep table of some rounds in a lent buffer: refusals 17, 20 and 21. "Table entries past
+// the node count are not written."
+pub fn table(plan: &Plan, rounds: usize, out: &mut [u16]) -> Result<(), Refusal> {
+    let mut world = World::zeros();
+    start(plan, &mut world)?;
+    if rounds > plan.rounds() {
+        return Err(Refusal::TooManyRounds);
     }
-    let nodes = entry(plan, HEAD, NODES);
+    let nodes = plan.nodes();
     if out.len() < nodes {
-        return BUFFER_SHORT;
+        return Err(Refusal::BufferShort);
     }
     lockstep(plan, &mut world, rounds);
-    hand_out(&world, nodes, out);
-    ACCEPTED
+    hand_out(&world, &mut out[..nodes]);
+    Ok(())
 }

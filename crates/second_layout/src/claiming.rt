@@ -4,38 +4,33 @@
 // earlier, and of two with paths of one length the one whose path is lower where they first differ: there one node claimed both, its lowest
 // neighbours first, and those below them claim in the same order. So a node is claimed by the neighbour whose path comes first, and its own
 // path comes first of all those that lead from the root to it, past the nodes of earlier clusters.
-use crate::paths::*;
-use second_plan::memory::*;
+use crate::paths::{Path, Paths};
+use second_plan::rows::{Plan, Row};
 
-// Whether p may be claimed from x: x is in the cluster of a root and above the depth, p is in no other cluster.
-fn may_claim(paths: &Paths, depth: usize, top: usize, x: usize, p: usize) -> bool {
-    if root(paths, x) != top {
-        return false;
-    }
-    if steps(paths, x) >= depth {
-        return false;
-    }
-    let other = root(paths, p);
-    if other == NOBODY {
-        return true;
-    }
-    other == top
+// The path over x to p, if p may be claimed from x: x is in the cluster of a root and above the depth.
+fn path_over(paths: &Paths, depth: usize, top: usize, x: usize, p: usize) -> Option<Path> {
+    paths
+        .path(x)
+        .filter(|path| path.root() == top && path.steps() < depth)
+        .map(|path| path.gone_on(p))
 }
 
-// p's path leads over x, if that comes before the one it has.
+// p's path leads over x, if p is in no other cluster and that path comes before the one it has.
 fn claim(paths: &mut Paths, depth: usize, top: usize, x: usize, p: usize) {
-    if may_claim(paths, depth, top, x, p) {
-        if comes_before(paths, x, p) {
-            go_on(paths, x, p);
+    if let Some(path) = path_over(paths, depth, top, x, p) {
+        let comes_first = paths
+            .path(p)
+            .is_none_or(|own| own.root() == top && path < own);
+        if comes_first {
+            paths.set_path(p, path);
         }
     }
 }
 
 // Over every link, both ways.
 fn claim_over_links(plan: &Plan, paths: &mut Paths, depth: usize, top: usize) {
-    for l in 0..entry(plan, HEAD, LINKS) {
-        let a = entry(plan, LOW, l);
-        let b = entry(plan, HIGH, l);
+    for l in 0..plan.links() {
+        let (a, b) = plan.ends(l);
         claim(paths, depth, top, a, b);
         claim(paths, depth, top, b, a);
     }
@@ -43,23 +38,27 @@ fn claim_over_links(plan: &Plan, paths: &mut Paths, depth: usize, top: usize) {
 
 // The cluster of a root. After k turns each node whose first path has k steps has it, and none has more than the depth.
 fn claim_cluster(plan: &Plan, paths: &mut Paths, depth: usize, top: usize) {
-    end_path(paths, top, 0);
+    paths.set_path(top, Path::of_root(top));
     for _ in 0..depth {
         claim_over_links(plan, paths, depth, top);
     }
 }
 
 // "take the lowest unclaimed node as a root, .. and repeat"
-pub(crate) fn claim_all(plan: &Plan, paths: &mut Paths, depth: usize) {
-    for p in 0..entry(plan, HEAD, NODES) {
-        if root(paths, p) == NOBODY {
-            claim_cluster(plan, paths, depth, p);
+pub(crate) fn claim_all(plan: &Plan, depth: usize) -> Paths {
+    let mut paths = Paths::none();
+    for p in 0..plan.nodes() {
+        if paths.path(p).is_none() {
+            claim_cluster(plan, &mut paths, depth, p);
         }
     }
+    paths
 }
 
 pub(crate) fn enter_parents(plan: &mut Plan, paths: &Paths) {
-    for p in 0..MOST_NODES {
-        set_entry(plan, PARENT, p, parent(paths, p));
+    for p in 0..plan.nodes() {
+        if let Some(path) = paths.path(p) {
+            plan.set_entry(Row::Parent, p, path.parent());
+        }
     }
 }

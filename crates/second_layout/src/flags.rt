@@ -1,46 +1,26 @@
 // "The preferred link of two joined clusters is the first in the list."
-use crate::paths::*;
-use second_plan::memory::*;
+use crate::paths::Paths;
+use second_plan::rows::{Plan, Row};
 
-// Whether link l joins the clusters of roots x and y, whichever end is in which.
-fn joins(plan: &Plan, paths: &Paths, l: usize, x: usize, y: usize) -> bool {
-    let low = root(paths, entry(plan, LOW, l));
-    let high = root(paths, entry(plan, HIGH, l));
-    if low == x {
-        return high == y;
-    }
-    if low == y {
-        return high == x;
-    }
-    false
+// The roots of the clusters that the ends of link l are in.
+fn roots_of(plan: &Plan, paths: &Paths, l: usize) -> (Option<usize>, Option<usize>) {
+    let (a, b) = plan.ends(l);
+    (paths.root(a), paths.root(b))
 }
 
-// Whether a link before link l joins the clusters of roots x and y.
-fn joined_before(plan: &Plan, paths: &Paths, l: usize, x: usize, y: usize) -> bool {
-    for k in 0..l {
-        if joins(plan, paths, k, x, y) {
-            return true;
-        }
-    }
-    false
-}
-
-// 1 for the first link between two clusters, else 0.
-fn flag(plan: &Plan, paths: &Paths, l: usize) -> usize {
-    let x = root(paths, entry(plan, LOW, l));
-    let y = root(paths, entry(plan, HIGH, l));
-    if x == y {
-        return 0;
-    }
-    if joined_before(plan, paths, l, x, y) {
-        return 0;
-    }
-    1
+// Whether link l joins two clusters, and no link before it joins them, whichever end is in which.
+fn is_preferred(plan: &Plan, paths: &Paths, l: usize) -> bool {
+    let (x, y) = roots_of(plan, paths, l);
+    let joins = |k: usize| {
+        let roots = roots_of(plan, paths, k);
+        roots == (x, y) || roots == (y, x)
+    };
+    x != y && !(0..l).any(joins)
 }
 
 pub(crate) fn enter_flags(plan: &mut Plan, paths: &Paths) {
-    for l in 0..MOST_LINKS {
-        let x = flag(plan, paths, l);
-        set_entry(plan, FLAG, l, x);
+    for l in 0..plan.links() {
+        let flag = usize::from(is_preferred(plan, paths, l));
+        plan.set_entry(Row::Flag, l, flag);
     }
 }

@@ -1,102 +1,92 @@
-// The paths by which nodes were claimed, and the only code that takes an index into them. A place that is not there reads as 0, and a store
-// to it is no store.
-//
-// Row p has the path of p: the numbers of its root, of the nodes on the way down, and its own, and after them NOBODY. The last row has the
-// steps of each path, one less than it has numbers. A node that nobody claimed has NOBODY in its whole row and for its steps.
-ghost use Rattle.std.specs.Prelude.{◌<◌};
+// The paths by which nodes were claimed.
 
-use second_plan::memory::*;
+use second_plan::rows::MOST_NODES;
 
-pub(crate) const NOBODY: usize = MOST_NODES;
+// In a path, no node. No Option: the root and the parent, which every path has, would be Options too.
+const NOBODY: u8 = 64;
 
-const STEPS: usize = MOST_NODES;
-
-const ROOM: usize = 65 * MOST_NODES;
-
-pub(crate) type Paths = [u8; ROOM];
-
-pub(crate) const NO_PATHS: Paths = [64; ROOM];
-
-fn wide(x: u8) -> usize
-    ensures { result < 256 }
-{
-    x as usize
+// The path of a node: how many steps it lies below its root, and the numbers of the root, of the nodes on the way down, and its own, and
+// after them NOBODY. The order of paths is that of claims: the shorter one first, and of two of one length the one that is lower where they
+// first differ.
+#[derive(Clone, Copy, Debug, PartialEq, Eq, PartialOrd, Ord)]
+pub(crate) struct Path {
+    steps: u8,
+    nodes: [u8; MOST_NODES],
 }
 
-// The i-th number on the path of p.
-pub(crate) fn number(paths: &Paths, p: usize, i: usize) -> usize
-    ensures { result < 256 }
-{
-    if p <= STEPS {
-        if i < MOST_NODES {
-            return wide(paths[p * MOST_NODES + i]);
+impl Path {
+    // The path of a root: of no steps.
+    pub fn of_root(p: usize) -> Path {
+        let mut path = Path {
+            steps: 0,
+            nodes: [NOBODY; MOST_NODES],
+        };
+        path.end_at(p);
+        path
+    }
+
+    // The same path one step further, to p.
+    pub fn gone_on(mut self, p: usize) -> Path {
+        self.steps = self.steps.saturating_add(1);
+        self.end_at(p);
+        self
+    }
+
+    // After its steps it is at p.
+    fn end_at(&mut self, p: usize) {
+        let end = self.steps();
+        if end < MOST_NODES {
+            self.nodes[end] = u8::try_from(p).unwrap_or(NOBODY);
         }
     }
-    0
+
+    // How many steps it lies below its root.
+    pub fn steps(&self) -> usize {
+        usize::from(self.steps)
+    }
+
+    // The i-th number on it.
+    fn node(&self, i: usize) -> usize {
+        usize::from(self.nodes.get(i).copied().unwrap_or(NOBODY))
+    }
+
+    // The root at which it begins.
+    pub fn root(&self) -> usize {
+        self.node(0)
+    }
+
+    // "The parent is the node that claimed it": the last but one. A root is its own.
+    pub fn parent(&self) -> usize {
+        self.node(self.steps().saturating_sub(1))
+    }
 }
 
-fn set_number(paths: &mut Paths, p: usize, i: usize, x: usize) {
-    if p <= STEPS {
-        if i < MOST_NODES {
-            paths[p * MOST_NODES + i] = (x % 256) as u8;
+// Of each node its path, if somebody claimed it.
+#[derive(Drop)]
+pub(crate) struct Paths {
+    paths: [Option<Path>; MOST_NODES],
+}
+
+impl Paths {
+    // Nobody is claimed yet.
+    pub fn none() -> Paths {
+        Paths {
+            paths: [None; MOST_NODES],
         }
     }
-}
 
-// How many steps p lies below its root.
-pub(crate) fn steps(paths: &Paths, p: usize) -> usize
-    ensures { result < 256 }
-{
-    number(paths, STEPS, p)
-}
-
-// The root at which the path of p begins.
-pub(crate) fn root(paths: &Paths, p: usize) -> usize {
-    number(paths, p, 0)
-}
-
-// "The parent is the node that claimed it": the last but one on its path.
-pub(crate) fn parent(paths: &Paths, p: usize) -> usize {
-    let below = steps(paths, p);
-    if below == 0 {
-        return p;
+    pub fn path(&self, p: usize) -> Option<Path> {
+        self.paths.get(p).copied().flatten()
     }
-    number(paths, p, below - 1)
-}
 
-// p's path ends after so many steps, at p.
-pub(crate) fn end_path(paths: &mut Paths, p: usize, steps: usize) {
-    set_number(paths, p, steps, p);
-    set_number(paths, STEPS, p, steps);
-}
-
-// p's path becomes that of x, and one step further p.
-pub(crate) fn go_on(paths: &mut Paths, x: usize, p: usize) {
-    let further = steps(paths, x) + 1;
-    for i in 0..MOST_NODES {
-        let q = number(paths, x, i);
-        set_number(paths, p, i, q);
-    }
-    end_path(paths, p, further);
-}
-
-// The first place at which the paths of x and p differ.
-fn first_difference(paths: &Paths, x: usize, p: usize) -> usize {
-    for i in 0..MOST_NODES {
-        if number(paths, x, i) != number(paths, p, i) {
-            return i;
+    pub fn set_path(&mut self, p: usize, path: Path) {
+        if p < MOST_NODES {
+            self.paths[p] = Some(path);
         }
     }
-    MOST_NODES
-}
 
-// Whether the path of x, gone on to p, comes before the path that p has: it is shorter, or as short and lower where the two first differ.
-pub(crate) fn comes_before(paths: &Paths, x: usize, p: usize) -> bool {
-    let further = steps(paths, x) + 1;
-    let own = steps(paths, p);
-    if further != own {
-        return further < own;
+    // The root of the cluster that p is in.
+    pub fn root(&self, p: usize) -> Option<usize> {
+        self.path(p).map(|path| path.root())
     }
-    let i = first_difference(paths, x, p);
-    number(paths, x, i) < number(paths, p, i)
 }

@@ -1,178 +1,111 @@
 // The checks over a whole plan: 6, 7, 8, 9 and 10, each a walk of its own.
 
-ghost use Rattle.std.specs.Prelude.{◌≤◌};
+use crate::answers::{Refusal, Refused};
+use crate::nodes::Set;
+use crate::rows::{MOST_LINKS, MOST_NODES, Plan, Row};
 
-use crate::answers::*;
-use crate::memory::*;
-use crate::nodes::{has, is_root, linked, with};
+// The root above p, if its parents lead to one. No root is more than 63 steps up, and at a root a
+// step up goes nowhere else: so 64 steps end at it, and a walk that ends elsewhere has none.
+fn root_of(plan: &Plan, p: usize) -> Option<usize> {
+    let at = (0..MOST_NODES).fold(p, |at, _| plan.entry(Row::Parent, at));
+    plan.is_root(at).then_some(at)
+}
 
-// No node: what is above a node whose parents never reach a root.
-const NOWHERE: usize = 256;
-
-// The root above p. No root is more than 63 steps up, and at a root a step up goes nowhere else:
-// so 64 steps end at it, and a walk that ends elsewhere has none.
-fn root_of(plan: &Plan, p: usize) -> usize {
-    let mut at = p;
-    for _ in 0..MOST_NODES {
-        at = entry(plan, PARENT, at);
-    }
-    if is_root(plan, at) {
-        return at;
-    }
-    NOWHERE
+// The roots above the ends of link l.
+fn roots_of(plan: &Plan, l: usize) -> (Option<usize>, Option<usize>) {
+    let (a, b) = plan.ends(l);
+    (root_of(plan, a), root_of(plan, b))
 }
 
 // Whether link l joins the clusters of roots x and y, whichever end is in which.
-fn joins(plan: &Plan, l: usize, x: usize, y: usize) -> bool {
-    let low = root_of(plan, entry(plan, LOW, l));
-    let high = root_of(plan, entry(plan, HIGH, l));
-    if low == x {
-        return high == y;
-    }
-    if low == y {
-        return high == x;
-    }
-    false
+fn joins(plan: &Plan, l: usize, x: Option<usize>, y: Option<usize>) -> bool {
+    let roots = roots_of(plan, l);
+    roots == (x, y) || roots == (y, x)
 }
 
-// 1 if link l is preferred and joins the clusters of roots x and y, else 0.
-fn preferred_at(plan: &Plan, l: usize, x: usize, y: usize) -> usize
-    ensures { result ≤ 1 }
-{
-    if l >= entry(plan, HEAD, LINKS) {
-        return 0;
-    }
-    if entry(plan, FLAG, l) == 0 {
-        return 0;
-    }
-    if joins(plan, l, x, y) {
-        return 1;
-    }
-    0
+// How many links there are to walk over.
+fn link_count(plan: &Plan) -> usize {
+    plan.links().min(MOST_LINKS)
 }
 
 // How many preferred links join the clusters of roots x and y.
-fn preferred_between(plan: &Plan, x: usize, y: usize) -> usize {
-    let mut found = 0;
-    for l in 0..MOST_LINKS {
-        found += preferred_at(plan, l, x, y);
-    }
-    found
+fn preferred_between(plan: &Plan, x: Option<usize>, y: Option<usize>) -> usize {
+    (0..link_count(plan))
+        .filter(|&l| plan.entry(Row::Flag, l) > 0 && joins(plan, l, x, y))
+        .count()
 }
 
 // The set of the nodes known to be joined to node 0, with what link l adds to it.
-fn spread(plan: &Plan, joined: usize, l: usize) -> usize {
-    let a = entry(plan, LOW, l);
-    let b = entry(plan, HIGH, l);
-    if l >= entry(plan, HEAD, LINKS) {
-        return joined;
+fn spread(plan: &Plan, joined: Set, l: usize) -> Set {
+    let (a, b) = plan.ends(l);
+    if joined.has(a) {
+        joined.with(b)
+    } else if joined.has(b) {
+        joined.with(a)
+    } else {
+        joined
     }
-    if has(joined, a) {
-        return with(joined, b);
-    }
-    if has(joined, b) {
-        return with(joined, a);
-    }
-    joined
 }
 
-fn spread_all(plan: &Plan, joined: usize) -> usize {
-    let mut all = joined;
-    for l in 0..MOST_LINKS {
-        all = spread(plan, all, l);
-    }
-    all
+fn spread_all(plan: &Plan, joined: Set) -> Set {
+    (0..link_count(plan)).fold(joined, |all, l| spread(plan, all, l))
 }
 
 // The nodes joined to node 0. After k turns each node within k links of it is found, and none that
 // can be reached is 64 links away.
-fn joined_to_first(plan: &Plan) -> usize {
-    let mut joined = with(0, 0);
-    for _ in 0..MOST_NODES {
-        joined = spread_all(plan, joined);
-    }
-    joined
+fn joined_to_first(plan: &Plan) -> Set {
+    (0..MOST_NODES).fold(Set::EMPTY.with(0), |joined, _| spread_all(plan, joined))
 }
 
 // "Each node that is no root has a link to its parent."
 fn lacks_parent(plan: &Plan, p: usize) -> bool {
-    let parent = entry(plan, PARENT, p);
-    if parent >= entry(plan, HEAD, NODES) {
-        return true;
-    }
-    if parent == p {
-        return false;
-    }
-    !linked(plan, p, parent)
+    let parent = plan.entry(Row::Parent, p);
+    parent >= plan.nodes() || (parent != p && !plan.marked(Row::Neighbours, p, parent))
 }
 
 // "A preferred link joins two clusters."
 fn preferred_inside(plan: &Plan, l: usize) -> bool {
-    if entry(plan, FLAG, l) == 0 {
-        return false;
-    }
-    root_of(plan, entry(plan, LOW, l)) == root_of(plan, entry(plan, HIGH, l))
+    let (x, y) = roots_of(plan, l);
+    plan.entry(Row::Flag, l) > 0 && x == y
 }
 
 // "For each two clusters with any link between them, exactly one of these links is preferred."
 fn not_one_preferred(plan: &Plan, l: usize) -> bool {
-    let x = root_of(plan, entry(plan, LOW, l));
-    let y = root_of(plan, entry(plan, HIGH, l));
-    if x == y {
-        return false;
-    }
-    preferred_between(plan, x, y) != 1
+    let (x, y) = roots_of(plan, l);
+    x != y && preferred_between(plan, x, y) != 1
 }
 
-// How many nodes or links a check walks over.
-fn length_of(plan: &Plan, check: u8) -> usize {
-    match check {
-        PREFERRED_INSIDE | NOT_ONE_PREFERRED => entry(plan, HEAD, LINKS),
-        _ => entry(plan, HEAD, NODES),
+// Refuses the lowest node or the first link, of so many, that fails a check.
+fn refuse_first<F: Fn(usize) -> bool>(
+    count: usize,
+    refusal: Refusal,
+    fails: F,
+) -> Result<(), Refused>
+    requires { F.IsAlwaysCallable fails }
+{
+    match (0..count).find(|&i| fails(i)) {
+        Some(place) => Err(refusal.at(place)),
+        None => Ok(()),
     }
-}
-
-// Whether node or link i is there and is what a check looks for.
-fn fails(plan: &Plan, joined: usize, check: u8, i: usize) -> bool {
-    if i >= length_of(plan, check) {
-        return false;
-    }
-    match check {
-        NO_PARENT => lacks_parent(plan, i),
-        NO_ROOT => root_of(plan, i) == NOWHERE,
-        PREFERRED_INSIDE => preferred_inside(plan, i),
-        NOT_ONE_PREFERRED => not_one_preferred(plan, i),
-        _ => !has(joined, i),
-    }
-}
-
-// The lowest node or the first link that fails a check, or a number that is too high for one.
-fn first_failing(plan: &Plan, joined: usize, check: u8) -> usize {
-    for i in 0..MOST_LINKS {
-        if fails(plan, joined, check, i) {
-            return i;
-        }
-    }
-    MOST_LINKS
 }
 
 // Check 10 alone: the lowest node that no links join to node 0.
-pub fn unjoined(plan: &Plan) -> Answer {
-    let i = first_failing(plan, joined_to_first(plan), NOT_JOINED);
-    if i < MOST_LINKS {
-        return answered(NOT_JOINED, i);
-    }
-    answered(ACCEPTED, 0)
+pub fn unjoined(plan: &Plan) -> Result<(), Refused> {
+    let joined = joined_to_first(plan);
+    refuse_first(plan.nodes(), Refusal::NotJoined, |p| !joined.has(p))
 }
 
 // The first check that the plan fails, and where.
-pub(crate) fn whole_plan(plan: &Plan) -> Answer {
-    let joined = joined_to_first(plan);
-    for check in NO_PARENT..NOT_JOINED + 1 {
-        let i = first_failing(plan, joined, check);
-        if i < MOST_LINKS {
-            return answered(check, i);
-        }
-    }
-    answered(ACCEPTED, 0)
+pub(crate) fn whole_plan(plan: &Plan) -> Result<(), Refused> {
+    let nodes = plan.nodes();
+    let links = plan.links();
+    refuse_first(nodes, Refusal::NoParent, |p| lacks_parent(plan, p))?;
+    refuse_first(nodes, Refusal::NoRoot, |p| root_of(plan, p).is_none())?;
+    refuse_first(links, Refusal::PreferredInside, |l| {
+        preferred_inside(plan, l)
+    })?;
+    refuse_first(links, Refusal::NotOnePreferred, |l| {
+        not_one_preferred(plan, l)
+    })?;
+    unjoined(plan)
 }

@@ -1,104 +1,90 @@
 // What a network says of its nodes. The sets of one kind, one below the other, are a matrix with a
 // mark for every ordered pair of nodes, and that is how links and children are looked up.
 
-ghost use Rattle.std.specs.Prelude.{◌≤◌};
+use crate::rows::{MOST_LINKS, MOST_NODES, Plan, Row};
 
-use crate::memory::*;
+// A set of nodes: a mark for each. "A number above 63 is in no set, and adding it changes nothing."
+#[derive(Clone, Copy, Debug, PartialEq, Eq)]
+pub struct Set(usize);
 
-// "A number above 63 is in no set, and adding it changes nothing."
-pub(crate) fn has(set: usize, q: usize) -> bool {
-    if q < MOST_NODES {
-        return (set >> q) % 2 == 1;
+impl Set {
+    pub const EMPTY: Set = Set(0);
+
+    pub fn has(self, q: usize) -> bool {
+        q < MOST_NODES && (self.0 >> q) % 2 == 1
     }
-    false
-}
 
-pub(crate) fn with(set: usize, q: usize) -> usize {
-    if q < MOST_NODES {
-        return set | (1usize << q);
-    }
-    set
-}
-
-pub fn linked(plan: &Plan, p: usize, q: usize) -> bool {
-    has(entry(plan, NEIGHBOURS, p), q)
-}
-
-pub fn preferred(plan: &Plan, p: usize, q: usize) -> bool {
-    has(entry(plan, PREFERRED, p), q)
-}
-
-// Whether q is a child of p.
-pub fn is_child(plan: &Plan, q: usize, p: usize) -> bool {
-    has(entry(plan, CHILDREN, p), q)
-}
-
-// "A node that names itself as parent is a root"
-pub fn is_root(plan: &Plan, p: usize) -> bool {
-    entry(plan, PARENT, p) == p
-}
-
-// 1 if p is a root, else 0.
-fn roots_at(plan: &Plan, p: usize) -> usize
-    ensures { result ≤ 1 }
-{
-    if p >= entry(plan, HEAD, NODES) {
-        return 0;
-    }
-    if is_root(plan, p) {
-        return 1;
-    }
-    0
-}
-
-// How many clusters a network has: one for each root.
-pub fn clusters(plan: &Plan) -> usize {
-    let mut found = 0;
-    for p in 0..MOST_NODES {
-        found += roots_at(plan, p);
-    }
-    found
-}
-
-// Puts q into the set of p.
-fn mark(plan: &mut Plan, row: usize, p: usize, q: usize) {
-    let set = with(entry(plan, row, p), q);
-    set_entry(plan, row, p, set);
-}
-
-// Marks the ends of link l, if there is one, in each other's sets.
-fn mark_link(plan: &mut Plan, row: usize, l: usize) {
-    let a = entry(plan, LOW, l);
-    let b = entry(plan, HIGH, l);
-    if l < entry(plan, HEAD, LINKS) {
-        mark(plan, row, a, b);
-        mark(plan, row, b, a);
+    pub fn with(self, q: usize) -> Set {
+        if q < MOST_NODES {
+            Set(self.0 | (1 << q))
+        } else {
+            self
+        }
     }
 }
 
-// Every link makes neighbours, and a preferred one preferred neighbours too.
-fn mark_flagged(plan: &mut Plan, l: usize) {
-    mark_link(plan, NEIGHBOURS, l);
-    if entry(plan, FLAG, l) > 0 {
-        mark_link(plan, PREFERRED, l);
+impl From<usize> for Set {
+    fn from(marks: usize) -> Set {
+        Set(marks)
     }
 }
 
-// "A node's children are the other nodes that name it as parent."
-fn mark_child(plan: &mut Plan, q: usize) {
-    let parent = entry(plan, PARENT, q);
-    if q >= entry(plan, HEAD, NODES) {
-        return;
-    }
-    if parent != q {
-        mark(plan, CHILDREN, parent, q);
+impl From<Set> for usize {
+    fn from(set: Set) -> usize {
+        set.0
     }
 }
 
-// Keeps the sets that the lists give beside them, where no sets were before.
-pub fn enter_sets(plan: &mut Plan) {
-    for i in 0..MOST_LINKS {
-        mark_flagged(plan, i);
-        mark_child(plan, i);
+impl Plan {
+    // Whether the set of p in a row has q: its neighbour, child or preferred neighbour.
+    pub fn marked(&self, row: Row, p: usize, q: usize) -> bool {
+        Set::from(self.entry(row, p)).has(q)
+    }
+
+    // Puts q into the set of p.
+    fn mark(&mut self, row: Row, p: usize, q: usize) {
+        let set = Set::from(self.entry(row, p)).with(q);
+        self.set_entry(row, p, usize::from(set));
+    }
+
+    // "A node that names itself as parent is a root"
+    pub fn is_root(&self, p: usize) -> bool {
+        self.entry(Row::Parent, p) == p
+    }
+
+    // How many clusters a network has: one for each root.
+    pub fn clusters(&self) -> usize {
+        (0..self.nodes().min(MOST_NODES))
+            .filter(|&p| self.is_root(p))
+            .count()
+    }
+
+    // Keeps the sets that the lists give beside them, where no sets were before.
+    pub fn enter_sets(&mut self) {
+        for l in 0..self.links().min(MOST_LINKS) {
+            self.mark_link(l);
+        }
+        for q in 0..self.nodes().min(MOST_LINKS) {
+            self.mark_child(q);
+        }
+    }
+
+    // Marks the ends of link l in each other's sets: every link makes neighbours, and a preferred one preferred neighbours too.
+    fn mark_link(&mut self, l: usize) {
+        let (a, b) = self.ends(l);
+        self.mark(Row::Neighbours, a, b);
+        self.mark(Row::Neighbours, b, a);
+        if self.entry(Row::Flag, l) > 0 {
+            self.mark(Row::Preferred, a, b);
+            self.mark(Row::Preferred, b, a);
+        }
+    }
+
+    // "A node's children are the other nodes that name it as parent."
+    fn mark_child(&mut self, q: usize) {
+        let parent = self.entry(Row::Parent, q);
+        if parent != q {
+            self.mark(Row::Children, parent, q);
+        }
     }
 }

@@ -5,265 +5,175 @@
 
 ghost use Rattle.std.specs.Prelude.{◌≤◌, ◌<◌};
 
-use crate::answers::*;
+use crate::answers::{Refusal, Refused};
 use crate::bytes::*;
 use crate::checks::whole_plan;
-use crate::memory::*;
-use crate::nodes::enter_sets;
+use crate::rows::{Head, MOST_LINKS, MOST_NODES, MOST_ROUNDS, Plan, Row};
 
-fn body(kind: usize) -> usize {
-    match kind {
-        END => 0,
-        TURNS => 2,
-        NODE => 4,
-        _ => 3,
-    }
-}
-
-// What the records of a plan come to.
+// How many nodes and links there were.
 #[derive(Clone, Copy)]
-struct Records {
-    number: u8,
-    place: usize,
+struct Seen {
     nodes: usize,
     links: usize,
 }
 
-// Each fault below is the first of 3, 4 and 5 that a record at `at` has, with so many nodes and
-// links before it, or 0.
+// Each of the following refuses a record at `at` for the first of 3, 4 and 5 that it deserves after
+// what was seen.
 
-fn end_fault(nodes: usize) -> u8 {
-    if nodes == 0 {
-        return OUT_OF_ORDER;
+fn judge_end(seen: Seen) -> Result<(), Refusal> {
+    if seen.nodes == 0 {
+        return Err(Refusal::OutOfOrder);
     }
-    ACCEPTED
+    Ok(())
 }
 
-fn rounds_fault(at: usize, rounds: usize) -> u8 {
+fn judge_rounds(at: usize, rounds: usize) -> Result<(), Refusal> {
     if at > 0 {
-        return OUT_OF_ORDER;
+        return Err(Refusal::OutOfOrder);
     }
-    if rounds == 0 {
-        return OUT_OF_RANGE;
+    if rounds == 0 || rounds > MOST_ROUNDS {
+        return Err(Refusal::OutOfRange);
     }
-    if rounds > MOST_ROUNDS {
-        return OUT_OF_RANGE;
-    }
-    ACCEPTED
+    Ok(())
 }
 
-fn node_fault(at: usize, nodes: usize, links: usize, p: usize) -> u8 {
-    if at == 0 {
-        return OUT_OF_ORDER;
+fn judge_node(at: usize, seen: Seen, p: usize) -> Result<(), Refusal> {
+    if at == 0 || seen.links > 0 || p != seen.nodes {
+        return Err(Refusal::OutOfOrder);
     }
-    if links > 0 {
-        return OUT_OF_ORDER;
+    if seen.nodes >= MOST_NODES {
+        return Err(Refusal::TooMany);
     }
-    if p != nodes {
-        return OUT_OF_ORDER;
-    }
-    if nodes >= MOST_NODES {
-        return TOO_MANY;
-    }
-    ACCEPTED
+    Ok(())
 }
 
-// Whether link (a, b) is above link (c, d).
-pub fn rises(a: usize, b: usize, c: usize, d: usize) -> bool {
-    if a == c {
-        return d < b;
-    }
-    c < a
+// The ends of the link at `at`.
+fn ends(bytes: &[u8], at: usize) -> (usize, usize) {
+    (
+        usize::from(byte(bytes, at, 1)),
+        usize::from(byte(bytes, at, 2)),
+    )
 }
 
 // Whether the link at `at` may come there: the first one after a node, any other above the link
 // in the four bytes before it.
-fn follows(bytes: &[u8], at: usize, nodes: usize, links: usize) -> bool {
-    if links == 0 {
-        return nodes > 0;
+fn follows(bytes: &[u8], at: usize, seen: Seen) -> bool {
+    if seen.links == 0 {
+        return seen.nodes > 0;
     }
-    if at < 4 {
-        return false;
-    }
-    let last = at - 4;
-    rises(
-        byte(bytes, at, 1),
-        byte(bytes, at, 2),
-        byte(bytes, last, 1),
-        byte(bytes, last, 2),
-    )
+    at.checked_sub(LINK_SIZE)
+        .is_some_and(|last| ends(bytes, last) < ends(bytes, at))
 }
 
-fn link_fault(follows: bool, nodes: usize, links: usize, a: usize, b: usize, flag: usize) -> u8 {
-    if !follows {
-        return OUT_OF_ORDER;
+fn judge_link(bytes: &[u8], at: usize, seen: Seen) -> Result<(), Refusal> {
+    let (a, b) = ends(bytes, at);
+    if !follows(bytes, at, seen) {
+        return Err(Refusal::OutOfOrder);
     }
-    if links >= MOST_LINKS {
-        return TOO_MANY;
+    if seen.links >= MOST_LINKS {
+        return Err(Refusal::TooMany);
     }
-    if a >= b {
-        return OUT_OF_RANGE;
+    if a >= b || b >= seen.nodes || byte(bytes, at, 3) > 1 {
+        return Err(Refusal::OutOfRange);
     }
-    if b >= nodes {
-        return OUT_OF_RANGE;
-    }
-    if flag > 1 {
-        return OUT_OF_RANGE;
-    }
-    ACCEPTED
+    Ok(())
 }
 
-fn fault(bytes: &[u8], at: usize, nodes: usize, links: usize) -> u8 {
+// The kind of the record at `at`, or the first fault, 1 to 5, that it has.
+fn judge_record(bytes: &[u8], at: usize, seen: Seen) -> Result<RecordKind, Refusal> {
+    let kind = RecordKind::try_from(byte(bytes, at, 0))?;
+    if cut_short(bytes, at, kind.body()) {
+        return Err(Refusal::CutRecord);
+    }
     let first = byte(bytes, at, 1);
-    let second = byte(bytes, at, 2);
-    let flag = byte(bytes, at, 3);
-    let follows = follows(bytes, at, nodes, links);
-    match byte(bytes, at, 0) {
-        END => end_fault(nodes),
-        TURNS => rounds_fault(at, two_bytes(first, second)),
-        NODE => node_fault(at, nodes, links, first),
-        _ => link_fault(follows, nodes, links, first, second, flag),
-    }
+    match kind {
+        RecordKind::End => judge_end(seen),
+        RecordKind::Rounds => judge_rounds(at, two_bytes(first, byte(bytes, at, 2))),
+        RecordKind::Node => judge_node(at, seen, usize::from(first)),
+        RecordKind::Link => judge_link(bytes, at, seen),
+    }?;
+    Ok(kind)
 }
 
-// The first fault, 1 to 5, of the record at `at`, or 0.
-fn record_fault(bytes: &[u8], at: usize, nodes: usize, links: usize) -> u8 {
-    let kind = byte(bytes, at, 0);
-    if kind > LINK {
-        return UNKNOWN_RECORD;
-    }
-    if cut_short(bytes, at, body(kind)) {
-        return CUT_RECORD;
-    }
-    fault(bytes, at, nodes, links)
-}
-
-// 1 for a record of the one kind, 0 for one of another.
-fn one_if(kind: usize, wanted: usize) -> usize
-    ensures { result ≤ 1 }
-{
-    if kind == wanted {
-        return 1;
-    }
-    0
-}
-
-// Record by record from the start, up to kind 0 or the first fault.
-fn judge(bytes: &[u8]) -> Records {
+// Record by record from the start, up to kind 0 or the first fault: what was seen, and the place
+// after kind 0.
+fn judge(bytes: &[u8]) -> Result<(Seen, usize), Refused> {
     let mut at = 0;
-    let mut nodes = 0;
-    let mut links = 0;
+    let mut seen = Seen { nodes: 0, links: 0 };
+
+    // a `while`, since each record says where the next one starts
     while at < bytes.len() {
-        let number = record_fault(bytes, at, nodes, links);
-        if number != ACCEPTED {
-            return Records {
-                number,
-                place: at,
-                nodes,
-                links,
-            };
+        let kind = judge_record(bytes, at, seen).map_err(|refusal| refusal.at(at))?;
+        match kind {
+            RecordKind::End => return Ok((seen, at + END_SIZE)),
+            RecordKind::Rounds => {}
+            RecordKind::Node => seen.nodes += 1,
+            RecordKind::Link => seen.links += 1,
         }
-        let kind = byte(bytes, at, 0);
-        if kind == END {
-            return Records {
-                number,
-                place: at + 1,
-                nodes,
-                links,
-            };
-        }
-        nodes += one_if(kind, NODE);
-        links += one_if(kind, LINK);
-        at = after(at, body(kind), bytes.len());
+        at = after(at, kind.body(), bytes.len());
     }
-    Records {
-        number: OUT_OF_ORDER,
-        place: at,
-        nodes,
-        links,
-    }
+    Err(Refusal::OutOfOrder.at(at))
 }
 
-// Node p, if there is one, stands after the rounds and p other nodes.
-fn enter_node(plan: &mut Plan, bytes: &[u8], nodes: usize, p: usize)
+// Node p stands after the rounds and p other nodes.
+fn enter_node(plan: &mut Plan, bytes: &[u8], p: usize)
     requires { p < 64 }
 {
-    let at = 3 + 5 * p;
-    if p < nodes {
-        set_entry(plan, PARENT, p, byte(bytes, at, 2));
-        set_entry(
-            plan,
-            START,
-            p,
-            two_bytes(byte(bytes, at, 3), byte(bytes, at, 4)),
-        );
-    }
+    let at = ROUNDS_SIZE + NODE_SIZE * p;
+    plan.set_entry(Row::Parent, p, usize::from(byte(bytes, at, 2)));
+    plan.set_entry(
+        Row::Start,
+        p,
+        two_bytes(byte(bytes, at, 3), byte(bytes, at, 4)),
+    );
 }
 
-fn enter_nodes(plan: &mut Plan, bytes: &[u8], nodes: usize) {
-    for p in 0..MOST_NODES {
-        enter_node(plan, bytes, nodes, p);
-    }
-}
-
-// Link l, if there is one, stands after the rounds, the nodes and l other links.
-fn enter_link(plan: &mut Plan, bytes: &[u8], first: usize, links: usize, l: usize)
-    requires { (first ≤ 323) × (l < 128) }
+// Link l stands after the rounds, so many nodes and l other links: the plan that it enters has its count of nodes last.
+fn enter_link(plan: &mut Plan, bytes: &[u8], nodes: usize, l: usize)
+    requires { (nodes ≤ 64) × (l < 128) }
 {
-    let at = first + 4 * l;
-    if l < links {
-        set_entry(plan, LOW, l, byte(bytes, at, 1));
-        set_entry(plan, HIGH, l, byte(bytes, at, 2));
-        set_entry(plan, FLAG, l, byte(bytes, at, 3));
-    }
-}
-
-fn enter_links(plan: &mut Plan, bytes: &[u8], nodes: usize, links: usize) {
-    if nodes <= MOST_NODES {
-        let first = 3 + 5 * nodes;
-        for l in 0..MOST_LINKS {
-            enter_link(plan, bytes, first, links, l);
-        }
-    }
+    let at = ROUNDS_SIZE + NODE_SIZE * nodes + LINK_SIZE * l;
+    let (a, b) = ends(bytes, at);
+    plan.set_entry(Row::Low, l, a);
+    plan.set_entry(Row::High, l, b);
+    plan.set_entry(Row::Flag, l, usize::from(byte(bytes, at, 3)));
 }
 
 // Enters the records of a plan without fault.
-fn enter(plan: &mut Plan, bytes: &[u8], nodes: usize, links: usize) {
-    set_entry(plan, HEAD, NODES, nodes);
-    set_entry(plan, HEAD, LINKS, links);
-    set_entry(
-        plan,
-        HEAD,
-        ROUNDS,
+fn enter(plan: &mut Plan, bytes: &[u8], seen: Seen) {
+    let nodes = seen.nodes.min(MOST_NODES);
+    let links = seen.links.min(MOST_LINKS);
+    plan.set_head(Head::Nodes, nodes);
+    plan.set_head(Head::Links, links);
+    plan.set_head(
+        Head::Rounds,
         two_bytes(byte(bytes, 0, 1), byte(bytes, 0, 2)),
     );
-    enter_nodes(plan, bytes, nodes);
-    enter_links(plan, bytes, nodes, links);
+    for p in 0..nodes {
+        enter_node(plan, bytes, p);
+    }
+    for l in 0..links {
+        enter_link(plan, bytes, nodes, l);
+    }
 }
 
-// Reads the records of the plan at the start of a byte string, and looks at no more than rules 1 to 5: answers 0 to 5, the place of 0
-// being the plan's length.
-pub fn read_records(plan: &mut Plan, bytes: &[u8]) -> Answer {
-    *plan = [0usize; PLAN];
-    let records = judge(bytes);
-    if records.number == ACCEPTED {
-        enter(plan, bytes, records.nodes, records.links);
-    }
-    answered(records.number, records.place)
+// Reads the records of the plan at the start of a byte string, and looks at no more than rules 1 to
+// 5: the plan's length, or a refusal of these.
+pub fn read_records(plan: &mut Plan, bytes: &[u8]) -> Result<usize, Refused> {
+    *plan = Plan::zeros();
+    let (seen, size) = judge(bytes)?;
+    enter(plan, bytes, seen);
+    Ok(size)
 }
 
-// Reads the plan at the start of a byte string: answers 0 to 10. "A refused plan hands back a
-// network of zeros."
-pub fn read_plan(plan: &mut Plan, bytes: &[u8]) -> Answer {
-    let records = read_records(plan, bytes);
-    if records.number != ACCEPTED {
-        return records;
-    }
-    enter_sets(plan);
+// Reads the plan at the start of a byte string: its length, or a refusal of 1 to 10. "A refused
+// plan hands back a network of zeros."
+pub fn read_plan(plan: &mut Plan, bytes: &[u8]) -> Result<usize, Refused> {
+    let size = read_records(plan, bytes)?;
+    plan.enter_sets();
     let whole = whole_plan(plan);
-    if whole.number != ACCEPTED {
-        *plan = [0usize; PLAN];
-        return whole;
+    if whole.is_err() {
+        *plan = Plan::zeros();
     }
-    records
+    whole.map(|()| size)
 }

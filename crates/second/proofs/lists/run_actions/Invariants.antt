@@ -4,8 +4,8 @@
 use Rattle.std.proofs.Common.{◌-◌, ◌≤◌, length}
 use Rattle.second.proofs.lists.run_actions.Given as goal
 
-abbrev pub invariant-loop-at : goal.invariant-loop-at
-invariant-loop-at l = (l.taken ≤ l.at) × (l.at ≤ length l.bytes)
+abbrev pub invariant-loop-place : goal.invariant-loop-place
+invariant-loop-place l = (l.taken ≤ l.place) × (l.place ≤ length l.bytes)
 
-abbrev pub decreases-loop-at : goal.decreases-loop-at
-decreases-loop-at l = length l.bytes - l.at
+abbrev pub decreases-loop-place : goal.decreases-loop-place
+decreases-loop-place l = length l.bytes - l.place

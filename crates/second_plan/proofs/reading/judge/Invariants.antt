@@ -5,7 +5,7 @@ use Rattle.std.proofs.Common.{◌-◌, ◌≤◌, length}
 use Rattle.second_plan.proofs.reading.judge.Given as goal
 
 abbrev pub invariant-loop-at : goal.invariant-loop-at
-invariant-loop-at l = (l.nodes ≤ l.at) × (l.links ≤ l.at) × (l.at ≤ length l.bytes)
+invariant-loop-at l = (l.seen.nodes ≤ l.at) × (l.seen.links ≤ l.at) × (l.at ≤ length l.bytes)
 
 abbrev pub decreases-loop-at : goal.decreases-loop-at
 decreases-loop-at l = length l.bytes - l.at

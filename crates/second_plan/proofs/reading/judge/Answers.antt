@@ -1,8 +1,0 @@
-use Rattle.std.proofs.Common.{rules}
-use Rattle.second_plan.proofs.reading.judge.Goals as goal
-
-pub loop-at-smaller : goal.loop-at-smaller
-loop-at-smaller c = let further = c.after-at.ensures.1 (search rules) in search rules
-
-pub loop-at-preserved : goal.loop-at-preserved
-loop-at-preserved c = let further = c.after-at.ensures.1 (search rules) in search rules
