@@ -1,89 +1,102 @@
-// Byte strings in a lent buffer: the first so many of its bytes. A place that is not there reads as 0, and a store to it is no store.
+// A byte string of at most ROOM bytes, in fixed memory.
+ghost use Rattle.std.specs.Prelude.{◌≤◌, length};
 
-pub fn get(bytes: &[u8], at: usize) -> u8 {
-    if at < bytes.len() {
-        return bytes[at];
-    }
-    0
+use crate::dice::Dice;
+
+// A byte that is not there reads as 0, and a write to it is none; bytes for which there is no room are left out.
+#[derive(Clone, Copy)]
+pub struct Bytes<const ROOM: usize> {
+    room: [u8; ROOM],
+    len: usize,
+    ghost within: { len ≤ ROOM },
 }
 
-pub(crate) fn put(bytes: &mut [u8], at: usize, b: u8) {
-    if at < bytes.len() {
-        bytes[at] = b;
+impl<const ROOM: usize> Bytes<ROOM> {
+    pub fn new() -> Self {
+        Bytes {
+            room: [0; ROOM],
+            len: 0,
+        }
     }
-}
 
-// One byte more at the end of a string of so many; how many it then has.
-pub fn append(bytes: &mut [u8], size: usize, b: u8) -> usize {
-    if size < bytes.len() {
-        bytes[size] = b;
-        return size + 1;
+    pub fn len(&self) -> usize
+        ensures { result ≤ ROOM }
+    {
+        self.len
     }
-    size
-}
 
-// All of these more, one after the other.
-pub(crate) fn append_all(bytes: &mut [u8], size: usize, more: &[u8]) -> usize {
-    let mut at = size;
-    for i in 0..more.len() {
-        let next = append(bytes, at, more[i]);
-        at = next;
+    pub fn is_empty(&self) -> bool {
+        self.len == 0
     }
-    at
-}
 
-// The byte before a place goes to the place.
-fn move_up(bytes: &mut [u8], at: usize) {
-    if 0 < at {
-        let b = get(bytes, at - 1);
-        put(bytes, at, b);
+    pub fn as_slice(&self) -> &[u8]
+        ensures { length result.now ≤ ROOM }
+    {
+        &self.room[..self.len]
     }
-}
 
-// A byte put in at a place, the rest moved up; how many bytes there then are.
-pub(crate) fn insert(bytes: &mut [u8], size: usize, at: usize, b: u8) -> usize {
-    let longer = append(bytes, size, 0);
-    let mut i = longer;
-    while at < i {
-        move_up(bytes, i);
-        i -= 1;
+    pub fn get(&self, at: usize) -> u8 {
+        self.as_slice().get(at).copied().unwrap_or(0)
     }
-    put(bytes, at, b);
-    longer
-}
 
-// The byte at a place taken out, the rest moved down; how many bytes are left.
-pub(crate) fn remove(bytes: &mut [u8], size: usize, at: usize) -> usize {
-    if size <= at {
-        return size;
+    pub fn set(&mut self, at: usize, b: u8) {
+        if at < self.len {
+            self.room[at] = b;
+        }
     }
-    let mut i = at;
-    while i < size {
-        let b = get(bytes, i + 1);
-        put(bytes, i, b);
-        i += 1;
-    }
-    size - 1
-}
 
-// So many bytes taken out at a place.
-pub(crate) fn remove_all(bytes: &mut [u8], size: usize, at: usize, count: usize) -> usize {
-    let mut left = size;
-    for _ in 0..count {
-        let shorter = remove(bytes, left, at);
-        left = shorter;
+    pub fn swap(&mut self, at: usize, other: usize) {
+        if at < self.len && other < self.len {
+            self.room.swap(at, other);
+        }
     }
-    left
-}
 
-// So many bytes exchanged, from two places on.
-pub fn exchange(bytes: &mut [u8], at: usize, other: usize, count: usize) {
-    for i in 0..count {
-        let x = crate::numbers::plus(at, i);
-        let y = crate::numbers::plus(other, i);
-        let b = get(bytes, x);
-        let c = get(bytes, y);
-        put(bytes, x, c);
-        put(bytes, y, b);
+    // These bytes put in at a place, the rest moved up.
+    pub fn insert(&mut self, at: usize, more: &[u8]) {
+        if at > self.len || more.len() > ROOM - self.len {
+            return;
+        }
+        let end = at + more.len();
+        let room = &mut self.room[..];
+        room.copy_within(at..self.len, end);
+        room[at..end].copy_from_slice(more);
+        self.len += more.len();
+    }
+
+    pub fn extend(&mut self, more: &[u8]) {
+        self.insert(self.len, more);
+    }
+
+    pub fn push(&mut self, b: u8) {
+        self.extend(&[b]);
+    }
+
+    // So many bytes taken out at a place, the rest moved down.
+    pub fn remove(&mut self, at: usize, count: usize) {
+        if at < self.len {
+            let end = at + count.min(self.len - at);
+            self.room.copy_within(end..self.len, at);
+            self.len -= end - at;
+        }
+    }
+
+    pub fn truncate(&mut self, len: usize) {
+        self.len = self.len.min(len);
+    }
+
+    // One thing wrong in the bytes themselves: one changed, some cut off, one put in or one taken out.
+    pub fn damage(&mut self, dice: &mut Dice) {
+        match dice.below(4) {
+            0 => {
+                let at = dice.below(self.len);
+                self.set(at, dice.byte());
+            }
+            1 => self.truncate(dice.below(self.len.saturating_add(1))),
+            2 => {
+                let at = dice.below(self.len.saturating_add(1));
+                self.insert(at, &[dice.below(5) as u8]);
+            }
+            _ => self.remove(dice.below(self.len), 1),
+        }
     }
 }

@@ -1,180 +1,155 @@
-// One thing wrong in the bytes of a plan of so many nodes: a byte, a record, or what a record says. Some damage leaves a plan that is
-// accepted all the same.
-use crate::bytes::{exchange, get, insert, put, remove, remove_all};
-use crate::dice::below;
-use crate::numbers::{byte, minus, of_byte, plus};
+// One thing wrong in the bytes of a plan: a byte, a record, or what a record says. Some damage leaves a plan that is accepted all the same. A draw
+// chooses by `match` on its number: an enum of the ways would name each of them twice and say no more.
+ghost use Rattle.std.specs.Prelude.{◌≤◌};
 
-// Where node p stands, and where link l does.
-pub(crate) fn node_at(p: usize) -> usize {
-    plus(3, p % 256 * 5)
+use crate::dice::Dice;
+use crate::plans::Plan;
+
+// Where node p stands.
+pub(crate) fn node_at(p: u8) -> usize
+    ensures { result ≤ 1278 }
+{
+    3 + usize::from(p) * 5
 }
 
-pub(crate) fn link_at(nodes: usize, l: usize) -> usize {
-    plus(node_at(nodes), l % 256 * 4)
-}
-
-// How many links a plan of so many bytes and nodes has.
-pub(crate) fn links_in(size: usize, nodes: usize) -> usize {
-    minus(size, plus(node_at(nodes), 1)) / 4
-}
-
-// Where a record stands: the rounds, the nodes, the links, the end.
-fn record_at(nodes: usize, r: usize) -> usize {
-    if r == 0 {
-        return 0;
+impl Plan {
+    // Where link l stands; the end of the plan is where the link after the last would.
+    pub(crate) fn link_at(&self, l: usize) -> usize
+        requires { l ≤ 1024 }
+        ensures { result ≤ 5374 }
+    {
+        node_at(self.nodes as u8) + l * 4
     }
-    if r <= nodes {
-        return node_at(r - 1);
+
+    // How many links there are.
+    pub(crate) fn links(&self) -> usize
+        ensures { result ≤ 256 }
+    {
+        self.bytes.len().saturating_sub(self.link_at(0) + 1) / 4
     }
-    link_at(nodes, minus(r - 1, nodes))
-}
 
-fn any_record(dice: &mut u64, size: usize, nodes: usize) -> usize {
-    below(dice, plus(plus(links_in(size, nodes), nodes), 2))
-}
-
-pub(crate) fn any_link_at(dice: &mut u64, size: usize, nodes: usize) -> usize {
-    link_at(nodes, below(dice, links_in(size, nodes)))
-}
-
-fn change_byte(bytes: &mut [u8], dice: &mut u64, size: usize) {
-    let at = below(dice, size);
-    put(bytes, at, byte(below(dice, 256)));
-}
-
-fn insert_byte(bytes: &mut [u8], dice: &mut u64, size: usize) -> usize {
-    let at = below(dice, plus(size, 1));
-    let b = byte(below(dice, 5));
-    insert(bytes, size, at, b)
-}
-
-fn remove_byte(bytes: &mut [u8], dice: &mut u64, size: usize) -> usize {
-    let at = below(dice, size);
-    remove(bytes, size, at)
-}
-
-fn remove_record(bytes: &mut [u8], dice: &mut u64, size: usize, nodes: usize) -> usize {
-    let r = any_record(dice, size, nodes);
-    let at = record_at(nodes, r);
-    let next = record_at(nodes, plus(r, 1));
-    remove_all(bytes, size, at, minus(next, at))
-}
-
-fn exchange_links(bytes: &mut [u8], dice: &mut u64, size: usize, nodes: usize) {
-    let at = any_link_at(dice, size, nodes);
-    let other = any_link_at(dice, size, nodes);
-    exchange(bytes, at, other, 4);
-}
-
-// A node gets another parent, which may be no node.
-fn change_parent(bytes: &mut [u8], dice: &mut u64, nodes: usize) {
-    let at = node_at(below(dice, nodes));
-    let parent = below(dice, plus(nodes, 1));
-    put(bytes, plus(at, 2), byte(parent));
-}
-
-// One end of a link becomes the parent of the other, and a ring may close.
-fn turn_parent(bytes: &mut [u8], dice: &mut u64, size: usize, nodes: usize) {
-    let at = any_link_at(dice, size, nodes);
-    let low = get(bytes, plus(at, 1));
-    let high = get(bytes, plus(at, 2));
-    if below(dice, 2) == 0 {
-        put(bytes, plus(node_at(of_byte(low)), 2), high);
-    } else {
-        put(bytes, plus(node_at(of_byte(high)), 2), low);
-    }
-}
-
-fn change_flag(bytes: &mut [u8], dice: &mut u64, size: usize, nodes: usize) {
-    let at = plus(any_link_at(dice, size, nodes), 3);
-    let flag = byte(below(dice, 8) / 3);
-    put(bytes, at, flag);
-}
-
-// An end of a link becomes another node, or one that is not there.
-fn change_end(bytes: &mut [u8], dice: &mut u64, size: usize, nodes: usize) {
-    let at = plus(any_link_at(dice, size, nodes), 1);
-    let end = plus(at, below(dice, 2));
-    put(bytes, end, byte(below(dice, plus(nodes, 1))));
-}
-
-// None, the most, one more, and others that are too many.
-fn change_rounds(bytes: &mut [u8], dice: &mut u64) {
-    let rounds = match below(dice, 4) {
-        0 => 0,
-        1 => 10000,
-        2 => 10001,
-        _ => below(dice, 65536),
-    };
-    put(bytes, 1, byte(rounds / 256));
-    put(bytes, 2, byte(rounds));
-}
-
-// A node more after the last: a root, or one whose parent is the node before it.
-pub fn add_node(bytes: &mut [u8], dice: &mut u64, size: usize, nodes: usize) -> usize {
-    let at = node_at(nodes);
-    let parent = byte(minus(nodes, below(dice, 2)));
-    let low = insert(bytes, size, at, 7);
-    let high = insert(bytes, low, at, 0);
-    let named = insert(bytes, high, at, parent);
-    let numbered = insert(bytes, named, at, byte(nodes));
-    insert(bytes, numbered, at, 2)
-}
-
-// A link more after the last, above it.
-pub fn add_link(bytes: &mut [u8], dice: &mut u64, size: usize, nodes: usize) -> usize {
-    let at = minus(size, 1);
-    let flag = insert(bytes, size, at, byte(below(dice, 2)));
-    let high = insert(bytes, flag, at, byte(below(dice, 256)));
-    let low = insert(bytes, high, at, byte(minus(nodes, 1)));
-    insert(bytes, low, at, 3)
-}
-
-// Damage to the bytes themselves: one changed, some cut off, one added or one taken out; how many there then are.
-pub fn damage_bytes(bytes: &mut [u8], dice: &mut u64, size: usize) -> usize {
-    match below(dice, 4) {
-        0 => {
-            change_byte(bytes, dice, size);
-            size
-        }
-        1 => below(dice, plus(size, 1)),
-        2 => insert_byte(bytes, dice, size),
-        _ => remove_byte(bytes, dice, size),
-    }
-}
-
-// Damage to whole records.
-fn damage_records(bytes: &mut [u8], dice: &mut u64, size: usize, nodes: usize) -> usize {
-    match below(dice, 4) {
-        0 => remove_record(bytes, dice, size, nodes),
-        1 => add_node(bytes, dice, size, nodes),
-        2 => add_link(bytes, dice, size, nodes),
-        _ => {
-            exchange_links(bytes, dice, size, nodes);
-            size
+    // Where a record stands: the rounds, the nodes, the links, the end.
+    fn record_at(&self, r: usize) -> usize
+        requires { r ≤ 1024 }
+        ensures { result ≤ 5374 }
+    {
+        match r.checked_sub(1) {
+            None => 0,
+            Some(p) if p < self.nodes => node_at(p as u8),
+            Some(p) => self.link_at(p - self.nodes),
         }
     }
-}
 
-// Damage to what a record says.
-fn damage_fields(bytes: &mut [u8], dice: &mut u64, size: usize, nodes: usize) {
-    match below(dice, 6) {
-        0 => change_parent(bytes, dice, nodes),
-        1 => turn_parent(bytes, dice, size, nodes),
-        2 => change_end(bytes, dice, size, nodes),
-        3 => change_rounds(bytes, dice),
-        _ => change_flag(bytes, dice, size, nodes),
+    pub(crate) fn any_link_at(&self, dice: &mut Dice) -> usize
+        ensures { result ≤ 5374 }
+    {
+        self.link_at(dice.below(self.links()))
     }
-}
 
-// One thing wrong in a plan; how many bytes it then has.
-pub fn damage_plan(bytes: &mut [u8], dice: &mut u64, size: usize, nodes: usize) -> usize {
-    match below(dice, 4) {
-        0 => damage_bytes(bytes, dice, size),
-        1 => damage_records(bytes, dice, size, nodes),
-        _ => {
-            damage_fields(bytes, dice, size, nodes);
-            size
+    fn remove_record(&mut self, dice: &mut Dice) {
+        let r = dice.below(self.links() + self.nodes + 2);
+        let at = self.record_at(r);
+        let next = self.record_at(r + 1);
+        self.bytes.remove(at, next.saturating_sub(at));
+    }
+
+    fn exchange_links(&mut self, dice: &mut Dice) {
+        let at = self.any_link_at(dice);
+        let other = self.any_link_at(dice);
+        for i in 0..4 {
+            self.bytes.swap(at + i, other + i);
+        }
+    }
+
+    // A node gets another parent, which may be no node.
+    fn change_parent(&mut self, dice: &mut Dice) {
+        let at = node_at(dice.below(self.nodes) as u8);
+        let parent = dice.below(self.nodes + 1) as u8;
+        self.bytes.set(at + 2, parent);
+    }
+
+    // One end of a link becomes the parent of the other, and a ring may close.
+    fn turn_parent(&mut self, dice: &mut Dice) {
+        let at = self.any_link_at(dice);
+        let low = self.bytes.get(at + 1);
+        let high = self.bytes.get(at + 2);
+        if dice.once_in(2) {
+            self.bytes.set(node_at(low) + 2, high);
+        } else {
+            self.bytes.set(node_at(high) + 2, low);
+        }
+    }
+
+    fn change_flag(&mut self, dice: &mut Dice) {
+        let at = self.any_link_at(dice);
+        let flag = (dice.below(8) / 3) as u8;
+        self.bytes.set(at + 3, flag);
+    }
+
+    // An end of a link becomes another node, or one that is not there.
+    fn change_end(&mut self, dice: &mut Dice) {
+        let at = self.any_link_at(dice);
+        let end = at + 1 + dice.below(2);
+        let node = dice.below(self.nodes + 1) as u8;
+        self.bytes.set(end, node);
+    }
+
+    // None, the most, one more, and others that are too many.
+    fn change_rounds(&mut self, dice: &mut Dice) {
+        let rounds = match dice.below(4) {
+            0 => 0,
+            1 => 10000,
+            2 => 10001,
+            _ => dice.word(),
+        };
+        let [high, low] = rounds.to_be_bytes();
+        self.bytes.set(1, high);
+        self.bytes.set(2, low);
+    }
+
+    // A node more after the last: a root, or one whose parent is the node before it.
+    pub fn add_node(&mut self, dice: &mut Dice) {
+        let parent = (self.nodes as u8).wrapping_sub(dice.below(2) as u8);
+        let at = self.link_at(0);
+        self.bytes.insert(at, &[2, self.nodes as u8, parent, 0, 7]);
+    }
+
+    // A link more after the last, above it.
+    pub fn add_link(&mut self, dice: &mut Dice) {
+        let flag = dice.below(2) as u8;
+        let high = dice.byte();
+        let low = (self.nodes as u8).wrapping_sub(1);
+        let at = self.bytes.len().saturating_sub(1);
+        self.bytes.insert(at, &[3, low, high, flag]);
+    }
+
+    // Damage to whole records.
+    fn damage_records(&mut self, dice: &mut Dice) {
+        match dice.below(4) {
+            0 => self.remove_record(dice),
+            1 => self.add_node(dice),
+            2 => self.add_link(dice),
+            _ => self.exchange_links(dice),
+        }
+    }
+
+    // Damage to what a record says.
+    fn damage_fields(&mut self, dice: &mut Dice) {
+        match dice.below(6) {
+            0 => self.change_parent(dice),
+            1 => self.turn_parent(dice),
+            2 => self.change_end(dice),
+            3 => self.change_rounds(dice),
+            _ => self.change_flag(dice),
+        }
+    }
+
+    // One thing wrong in a plan.
+    pub fn damage(&mut self, dice: &mut Dice) {
+        match dice.below(4) {
+            0 => self.bytes.damage(dice),
+            1 => self.damage_records(dice),
+            _ => self.damage_fields(dice),
         }
     }
 }

@@ -5,6 +5,5 @@
 pub mod bytes;
 pub mod damage;
 pub mod dice;
-pub mod numbers;
 pub mod plans;
 pub mod unfilled;

@@ -1,330 +1,280 @@
 // Plans that are accepted: a tree of wires over shuffled node numbers, cut into clusters, then more wires, and one preferred link for each
 // two joined clusters.
-use crate::bytes::{append, append_all};
-use crate::dice::{below, once_in};
-use crate::numbers::{byte, minus, of_byte, plus};
+ghost use Rattle.std.specs.Prelude.{◌<◌, ◌≤◌, IfSome};
+
+use crate::bytes::Bytes;
+use crate::dice::Dice;
+use std::array;
 
 // Room for the bytes of every plan, and for what damage adds.
 pub const ROOM: usize = 1024;
 
-const MOST_NODES: usize = 64;
+pub const MOST_NODES: usize = 64;
 
-// A number for each node.
-type Names = [u8; MOST_NODES];
-
-// What joins a and b, where a is below b, at 64 a + b.
+// What joins a and b, where a is below b, stands at 64 a + b.
 const PAIRS: usize = MOST_NODES * MOST_NODES;
 
-type Wires = [u8; PAIRS];
-
-const ORDINARY: u8 = 1;
-
-const PREFERRED: u8 = 2;
-
 // What a tree of wires looks like: each node hangs on the one before it, on the first, or on any before it.
-pub const CHAIN: usize = 0;
-
-pub const STAR: usize = 1;
-
-pub const TREE: usize = 2;
+#[derive(Clone, Copy, Debug, PartialEq, Eq)]
+pub enum Shape {
+    Chain,
+    Star,
+    Tree,
+}
 
 // How the nodes of the tree are numbered.
-pub const AS_COUNTED: usize = 0;
+#[derive(Clone, Copy, Debug, PartialEq, Eq)]
+pub enum Order {
+    AsCounted,
+    Backwards,
+    Shuffled,
+}
 
-pub const BACKWARDS: usize = 1;
-
-pub const SHUFFLED: usize = 2;
+// What joins two nodes.
+#[derive(Clone, Copy, Debug, PartialEq, Eq)]
+enum Wire {
+    Ordinary,
+    Preferred,
+}
 
 // What is asked of a plan. One node in `cut` is a root besides the first; none where that is 0.
 #[derive(Clone, Copy)]
 pub struct Wish {
     pub nodes: usize,
     pub links: usize,
-    pub rounds: usize,
-    pub shape: usize,
+    pub rounds: u16,
+    pub shape: Shape,
     pub cut: usize,
-    pub order: usize,
+    pub order: Order,
+    ghost few: { nodes ≤ 64 },
 }
 
-// Most plans are small; some have any size, and some the largest.
-pub fn any_wish(dice: &mut u64) -> Wish {
-    let nodes = match below(dice, 10) {
-        0 => 64,
-        1 => plus(below(dice, 64), 1),
-        _ => plus(below(dice, 10), 1),
-    };
-    let links = match below(dice, 3) {
-        0 => 0,
-        1 => 128,
-        _ => plus(nodes, below(dice, nodes)),
-    };
-    Wish {
-        nodes,
-        links,
-        rounds: plus(below(dice, 3), 1),
-        shape: below(dice, 4),
-        cut: below(dice, 6),
-        order: below(dice, 5),
-    }
+// The bytes of a plan, and how many nodes it was drawn with.
+#[derive(Clone, Copy)]
+pub struct Plan {
+    pub bytes: Bytes<ROOM>,
+    pub nodes: usize,
+    ghost few: { nodes ≤ 64 },
 }
 
-fn name(names: &Names, p: usize) -> usize {
-    if p < MOST_NODES {
-        return of_byte(names[p]);
-    }
-    0
+// A plan before it is written down: each node's parent, and what joins each two.
+#[derive(Drop)]
+struct Sketch {
+    parents: [u8; MOST_NODES],
+    wires: [Option<Wire>; PAIRS],
 }
 
-fn set_name(names: &mut Names, p: usize, to: usize) {
-    if p < MOST_NODES {
-        names[p] = byte(to);
-    }
-}
-
-// The numbers of so many nodes, counted up or down.
-fn own_names(nodes: usize, down: bool) -> Names {
-    let mut names = [0u8; MOST_NODES];
-    for p in 0..MOST_NODES {
-        if down {
-            set_name(&mut names, p, minus(minus(nodes, 1), p));
-        } else {
-            set_name(&mut names, p, p);
+impl Shape {
+    // Half of all draws are trees.
+    fn any(dice: &mut Dice) -> Shape {
+        match dice.below(4) {
+            0 => Shape::Chain,
+            1 => Shape::Star,
+            _ => Shape::Tree,
         }
     }
-    names
-}
 
-fn swap_names(names: &mut Names, p: usize, q: usize) {
-    let x = name(names, p);
-    let y = name(names, q);
-    set_name(names, p, y);
-    set_name(names, q, x);
-}
-
-// The names of the first nodes in any order.
-fn shuffle(names: &mut Names, dice: &mut u64, nodes: usize) {
-    for p in 0..nodes {
-        let q = below(dice, p + 1);
-        swap_names(names, p, q);
-    }
-}
-
-fn wire_at(wires: &Wires, pair: usize) -> u8 {
-    if pair < PAIRS {
-        return wires[pair];
-    }
-    0
-}
-
-fn set_wire(wires: &mut Wires, pair: usize, sort: u8) {
-    if pair < PAIRS {
-        wires[pair] = sort;
-    }
-}
-
-// Where the wire between two nodes stands; past the end for one node.
-fn pair_of(p: usize, q: usize) -> usize {
-    if p < MOST_NODES {
-        if q < MOST_NODES {
-            if p < q {
-                return p * MOST_NODES + q;
-            }
-            if q < p {
-                return q * MOST_NODES + p;
-            }
+    // On which node before it the p-th hangs.
+    fn above(self, dice: &mut Dice, p: usize) -> usize {
+        match self {
+            Shape::Chain => p.saturating_sub(1),
+            Shape::Tree if p > 0 => dice.below(p),
+            Shape::Star | Shape::Tree => 0,
         }
     }
-    PAIRS
 }
 
-// A wire between two nodes: 1 if it is a new one, else 0.
-fn join(wires: &mut Wires, p: usize, q: usize) -> usize {
-    let pair = pair_of(p, q);
-    if PAIRS <= pair {
-        return 0;
+impl Order {
+    // A fifth of all draws are backwards, and a fifth shuffled.
+    fn any(dice: &mut Dice) -> Order {
+        match dice.below(5) {
+            1 => Order::Backwards,
+            2 => Order::Shuffled,
+            _ => Order::AsCounted,
+        }
     }
-    if wire_at(wires, pair) > 0 {
-        return 0;
+
+    // The numbers of so many nodes.
+    fn names(self, dice: &mut Dice, nodes: usize) -> [u8; MOST_NODES]
+        requires { nodes ≤ 64 }
+    {
+        let mut names: [u8; MOST_NODES] = array::from_fn(|p| p as u8);
+        match self {
+            Order::AsCounted => {}
+            Order::Backwards => names[..nodes].reverse(),
+            Order::Shuffled => dice.shuffle(&mut names[..nodes]),
+        }
+        names
     }
-    set_wire(wires, pair, ORDINARY);
-    1
 }
 
-// On which node before it the p-th hangs.
-fn above(dice: &mut u64, shape: usize, p: usize) -> usize {
-    if shape == STAR {
-        return 0;
+impl Wish {
+    // Most plans are small; some have any size, and some the largest.
+    pub fn any(dice: &mut Dice) -> Wish {
+        let nodes = match dice.below(10) {
+            0 => MOST_NODES,
+            1 => dice.below(MOST_NODES) + 1,
+            _ => dice.below(10) + 1,
+        };
+        let links = match dice.below(3) {
+            0 => 0,
+            1 => 128,
+            _ => nodes + dice.below(nodes),
+        };
+        Wish {
+            nodes,
+            links,
+            rounds: dice.below(3) as u16 + 1,
+            shape: Shape::any(dice),
+            cut: dice.below(6),
+            order: Order::any(dice),
+        }
     }
-    if p == 0 {
-        return 0;
-    }
-    if shape == CHAIN {
-        return p - 1;
-    }
-    below(dice, p)
 }
 
-fn hang(
-    parents: &mut Names,
-    wires: &mut Wires,
-    names: &Names,
-    dice: &mut u64,
-    wish: Wish,
-    p: usize,
-) {
-    let own = name(names, p);
-    let up = name(names, above(dice, wish.shape, p));
-    join(wires, up, own);
-    if once_in(dice, wish.cut) {
-        set_name(parents, own, own);
+// Where the wire between two nodes stands.
+fn pair_of(p: u8, q: u8) -> Option<usize>
+    ensures { IfSome result (λ i. i < 4096) }
+{
+    let (low, high) = (usize::from(p.min(q)), usize::from(p.max(q)));
+    if low < high && high < MOST_NODES {
+        Some(low * MOST_NODES + high)
     } else {
-        set_name(parents, own, up);
+        None
     }
 }
 
-fn hang_all(parents: &mut Names, wires: &mut Wires, names: &Names, dice: &mut u64, wish: Wish) {
-    for p in 0..wish.nodes {
-        hang(parents, wires, names, dice, wish, p);
+impl Sketch {
+    fn new() -> Sketch {
+        Sketch {
+            parents: [0; MOST_NODES],
+            wires: [None; PAIRS],
+        }
     }
-}
 
-// More wires between any two nodes, until there are as many as asked for or luck is out.
-fn join_more(wires: &mut Wires, dice: &mut u64, nodes: usize, links: usize) {
-    let mut have = minus(nodes, 1);
-    for _ in 0..PAIRS {
-        if links <= have {
+    // Whether a wire between two nodes is a new one.
+    fn join(&mut self, p: u8, q: u8) -> bool {
+        let Some(pair) = pair_of(p, q) else {
+            return false;
+        };
+        let is_new = self.wires[pair].is_none();
+        if is_new {
+            self.wires[pair] = Some(Wire::Ordinary);
+        }
+        is_new
+    }
+
+    // A node hangs on another, and belongs to its cluster or is a root.
+    fn hang(&mut self, own: u8, up: u8, is_root: bool) {
+        self.join(up, own);
+        if let Some(parent) = self.parents.get_mut(usize::from(own)) {
+            *parent = if is_root { own } else { up };
+        }
+    }
+
+    fn hang_all(&mut self, dice: &mut Dice, wish: Wish) {
+        let names = wish.order.names(dice, wish.nodes);
+        for (p, own) in names.iter().take(wish.nodes).enumerate() {
+            let up = names.get(wish.shape.above(dice, p)).copied().unwrap_or(0);
+            let is_root = dice.once_in(wish.cut);
+            self.hang(*own, up, is_root);
+        }
+    }
+
+    // More wires between any two nodes, until there are as many as asked for or luck is out.
+    fn join_more(&mut self, dice: &mut Dice, wish: Wish) {
+        let mut have = wish.nodes.saturating_sub(1);
+        for _ in 0..PAIRS {
+            if wish.links <= have {
+                return;
+            }
+            let p = dice.below(wish.nodes) as u8;
+            let q = dice.below(wish.nodes) as u8;
+            have += usize::from(self.join(p, q));
+        }
+    }
+
+    fn parent(&self, p: u8) -> u8 {
+        self.parents.get(usize::from(p)).copied().unwrap_or(0)
+    }
+
+    // The root that the parents of p lead to.
+    fn root_of(&self, p: usize) -> u8
+        requires { p < 64 }
+    {
+        (0..MOST_NODES).fold(p as u8, |at, _| self.parent(at))
+    }
+
+    // "For each two clusters with any link between them, exactly one of these links is preferred": the first from any pair on.
+    fn prefer_all(&mut self, dice: &mut Dice) {
+        let mut chosen = [false; PAIRS];
+        let first = dice.below(PAIRS);
+        for i in 0..PAIRS {
+            self.prefer(&mut chosen, (first + i) % PAIRS);
+        }
+    }
+
+    // Prefers the wire of a pair if it joins two clusters that no preferred one joins yet.
+    fn prefer(&mut self, chosen: &mut [bool; PAIRS], pair: usize)
+        requires { pair < 4096 }
+    {
+        if self.wires[pair].is_none() {
             return;
         }
-        let p = below(dice, nodes);
-        let q = below(dice, nodes);
-        let more = join(wires, p, q);
-        have = plus(have, more);
+        let p = self.root_of(pair / MOST_NODES);
+        let q = self.root_of(pair % MOST_NODES);
+        if let Some(clusters) = pair_of(p, q)
+            && !chosen[clusters]
+        {
+            chosen[clusters] = true;
+            self.wires[pair] = Some(Wire::Preferred);
+        }
     }
-}
 
-// The root that the parents of p lead to.
-fn root_of(parents: &Names, p: usize) -> usize {
-    let mut at = p;
-    for _ in 0..MOST_NODES {
-        let up = name(parents, at);
-        at = up;
+    fn write_nodes(&self, dice: &mut Dice, plan: &mut Plan) {
+        for p in 0..plan.nodes as u8 {
+            let [high, low] = start_value(dice).to_be_bytes();
+            plan.bytes.extend(&[2, p, self.parent(p), high, low]);
+        }
     }
-    at
-}
 
-// Prefers the wire of a pair if it joins two clusters that no preferred one joins yet.
-fn prefer(wires: &mut Wires, chosen: &mut Wires, parents: &Names, pair: usize) {
-    if wire_at(wires, pair) == 0 {
-        return;
-    }
-    let clusters = pair_of(
-        root_of(parents, pair / MOST_NODES),
-        root_of(parents, pair % MOST_NODES),
-    );
-    if PAIRS <= clusters {
-        return;
-    }
-    if wire_at(chosen, clusters) == 0 {
-        set_wire(chosen, clusters, PREFERRED);
-        set_wire(wires, pair, PREFERRED);
-    }
-}
-
-// "For each two clusters with any link between them, exactly one of these links is preferred": the first from any pair on.
-fn prefer_all(wires: &mut Wires, parents: &Names, dice: &mut u64) {
-    let mut chosen = [0u8; PAIRS];
-    let first = below(dice, PAIRS);
-    for i in 0..PAIRS {
-        prefer(wires, &mut chosen, parents, plus(first, i) % PAIRS);
+    fn write_links(&self, plan: &mut Plan) {
+        for (pair, wire) in self.wires.iter().enumerate() {
+            if let Some(sort) = wire {
+                let a = (pair / MOST_NODES) as u8;
+                let b = (pair % MOST_NODES) as u8;
+                plan.bytes
+                    .extend(&[3, a, b, u8::from(*sort == Wire::Preferred)]);
+            }
+        }
     }
 }
 
 // A start value: any, the least or the most.
-fn start_value(dice: &mut u64) -> usize {
-    match below(dice, 8) {
+fn start_value(dice: &mut Dice) -> u16 {
+    match dice.below(8) {
         0 => 0,
-        1 => 65535,
-        _ => below(dice, 65536),
+        1 => u16::MAX,
+        _ => dice.word(),
     }
 }
 
-fn append_node(bytes: &mut [u8], size: usize, parents: &Names, dice: &mut u64, p: usize) -> usize {
-    let value = start_value(dice);
-    let node = [
-        2,
-        byte(p),
-        byte(name(parents, p)),
-        byte(value / 256),
-        byte(value),
-    ];
-    append_all(bytes, size, &node)
-}
-
-fn append_nodes(
-    bytes: &mut [u8],
-    size: usize,
-    parents: &Names,
-    dice: &mut u64,
-    nodes: usize,
-) -> usize {
-    let mut at = size;
-    for p in 0..nodes {
-        let next = append_node(bytes, at, parents, dice, p);
-        at = next;
+impl Plan {
+    // A plan as asked for.
+    pub fn drawn(dice: &mut Dice, wish: Wish) -> Plan {
+        let mut sketch = Sketch::new();
+        sketch.hang_all(dice, wish);
+        sketch.join_more(dice, wish);
+        sketch.prefer_all(dice);
+        let mut plan = Plan {
+            bytes: Bytes::new(),
+            nodes: wish.nodes,
+        };
+        let [high, low] = wish.rounds.to_be_bytes();
+        plan.bytes.extend(&[1, high, low]);
+        sketch.write_nodes(dice, &mut plan);
+        sketch.write_links(&mut plan);
+        plan.bytes.push(0);
+        plan
     }
-    at
-}
-
-fn append_link(bytes: &mut [u8], size: usize, wires: &Wires, pair: usize) -> usize {
-    let sort = wire_at(wires, pair);
-    if sort == 0 {
-        return size;
-    }
-    let flag = if sort == PREFERRED { 1 } else { 0 };
-    let link = [3, byte(pair / MOST_NODES), byte(pair % MOST_NODES), flag];
-    append_all(bytes, size, &link)
-}
-
-fn append_links(bytes: &mut [u8], size: usize, wires: &Wires) -> usize {
-    let mut at = size;
-    for pair in 0..PAIRS {
-        let next = append_link(bytes, at, wires, pair);
-        at = next;
-    }
-    at
-}
-
-fn write_plan(
-    bytes: &mut [u8],
-    parents: &Names,
-    wires: &Wires,
-    dice: &mut u64,
-    wish: Wish,
-) -> usize {
-    let rounds = wish.rounds;
-    let first = [1, byte(rounds / 256), byte(rounds)];
-    let begun = append_all(bytes, 0, &first);
-    let nodes = append_nodes(bytes, begun, parents, dice, wish.nodes);
-    let links = append_links(bytes, nodes, wires);
-    append(bytes, links, 0)
-}
-
-fn names_for(dice: &mut u64, wish: Wish) -> Names {
-    let nodes = wish.nodes;
-    let mut names = own_names(nodes, wish.order == BACKWARDS);
-    if wish.order == SHUFFLED {
-        shuffle(&mut names, dice, nodes);
-    }
-    names
-}
-
-// Puts a plan into the buffer; how many bytes it has.
-pub fn make_plan(bytes: &mut [u8], dice: &mut u64, wish: Wish) -> usize {
-    let names = names_for(dice, wish);
-    let mut parents = [0u8; MOST_NODES];
-    let mut wires = [0u8; PAIRS];
-    hang_all(&mut parents, &mut wires, &names, dice, wish);
-    join_more(&mut wires, dice, wish.nodes, wish.links);
-    prefer_all(&mut wires, &parents, dice);
-    write_plan(bytes, &parents, &wires, dice, wish)
 }

@@ -4,261 +4,177 @@
 
 use calls::both::{Action, try_act, try_list, try_method, try_start};
 use compare::networks::plan_of;
-use compare::states::{Pairs, draw_state, of_directions, pair, pairs_of, same_state, used_by};
-use compare::tally::{Tally, same, same_answer};
-use draws::bytes::{append, exchange, get};
-use draws::damage::damage_bytes;
-use draws::dice::below;
-use draws::numbers::{byte, of_byte, of_word, plus};
+use compare::states::{Pairs, same_state, used_by, world_of};
+use compare::tally::{Tally, Trials};
+use draws::bytes::Bytes;
+use draws::dice::Dice;
 use network::Network;
-use second_plan::memory::*;
+use second_plan::answers::Answer;
+use second_plan::rows::Plan;
+use second_plan::sheets::{Kind, Sheet, World};
 use synchronizer::State;
 
 // Room for the actions of a run: three rounds, and none has more than 6,144 bytes.
 const LIST: usize = 20480;
 
-// Room for every action of the largest network, each in three bytes: fourteen kinds of 64 nodes, six of 256 directions.
-const ORDER: usize = 7296;
+// How many actions the largest network has: fourteen kinds of 64 nodes, six of 256 directions.
+const MOST_ACTIONS: usize = 2432;
 
-// What a run has come to: the bench's state, and how many bytes the actions taken have.
-#[derive(Clone, Copy)]
-struct Walk {
-    state: State,
-    size: usize,
+// Every action of a network, in any order, in fixed memory. `Bytes` over any type would insert and remove too, which nothing here does.
+#[derive(Drop)]
+struct Actions {
+    room: [Action; MOST_ACTIONS],
+    count: usize,
 }
 
-// An action's kind and first number at the end of a list; how many bytes the list then has.
-fn append_start(list: &mut [u8], size: usize, action: &Action) -> usize {
-    let kind = append(list, size, action[0]);
-    append(list, kind, action[1])
-}
-
-// The same with the second number.
-fn append_whole(list: &mut [u8], size: usize, action: &Action) -> usize {
-    let start = append_start(list, size, action);
-    append(list, start, action[2])
-}
-
-// An action that was taken at the end of a list, in as many bytes as it has; one that was refused is left out.
-fn append_taken(list: &mut [u8], size: usize, action: &Action, answer: u8) -> usize {
-    if answer > 0 {
-        return size;
+impl Actions {
+    fn of(net: &Network) -> Actions {
+        let pairs = Pairs::of(net);
+        let mut actions = Actions {
+            room: [[0; 3]; MOST_ACTIONS],
+            count: 0,
+        };
+        for kind in Kind::ALL {
+            for x in 0..=u8::MAX {
+                if usize::from(x) < used_by(net, Sheet::Count(kind)) {
+                    actions.push(action_of(&pairs, kind, x));
+                }
+            }
+        }
+        actions
     }
-    if of_directions(of_byte(action[0])) {
-        return append_whole(list, size, action);
+
+    fn push(&mut self, action: Action) {
+        if let Some(place) = self.room.get_mut(self.count) {
+            *place = action;
+            self.count += 1;
+        }
     }
-    append_start(list, size, action)
+
+    fn shuffle(&mut self, dice: &mut Dice) {
+        let count = self.count.min(MOST_ACTIONS);
+        dice.shuffle(&mut self.room[..count]);
+    }
+
+    fn as_slice(&self) -> &[Action] {
+        &self.room[..self.count.min(MOST_ACTIONS)]
+    }
 }
 
 // The action of a kind at a node or a direction.
-fn action_of(pairs: &Pairs, kind: usize, x: usize) -> Action {
-    if of_directions(kind) {
-        let ends = pair(pairs, x);
-        return [byte(kind), byte(ends / 64), byte(ends % 64)];
-    }
-    [byte(kind), byte(x), byte(x)]
-}
-
-// The action of a code at the end of a list, if the network has it; how many bytes the list then has.
-fn list_action(order: &mut [u8], size: usize, pairs: &Pairs, net: Network, code: usize) -> usize {
-    let kind = code / 256;
-    let x = code % 256;
-    if x >= used_by(net, kind) {
-        return size;
-    }
-    let action = action_of(pairs, kind, x);
-    append_whole(order, size, &action)
-}
-
-// Every action of a network; how many there are.
-fn list_actions(order: &mut [u8], net: Network) -> usize {
-    let pairs = pairs_of(net);
-    let mut size = 0;
-    for i in 0..5120 {
-        let next = list_action(order, size, &pairs, net, OUTPUT * 256 + i);
-        size = next;
-    }
-    size / 3
-}
-
-fn action_at(order: &[u8], i: usize) -> Action {
-    let at = i % 4096 * 3;
-    [get(order, at), get(order, at + 1), get(order, at + 2)]
-}
-
-// The actions in any order.
-fn shuffle(order: &mut [u8], dice: &mut u64, count: usize) {
-    for i in 0..count {
-        let j = below(dice, i + 1);
-        exchange(order, i % 4096 * 3, j % 4096 * 3, 3);
-    }
-}
-
-// One action of both sides on a state that 17 does not refuse.
-fn step(
-    tally: &mut Tally,
-    net: Network,
-    walk: Walk,
-    plan: &Plan,
-    world: &mut World,
-    list: &mut [u8],
-    action: &Action,
-) -> Walk {
-    let before = walk.state;
-    let ours = before.act(net, action);
-    let theirs = second::act(plan, world, action, 0);
-    same_answer(tally, b", action's answer ", ours.answer, theirs);
-    let size = append_taken(list, walk.size, action, ours.answer);
-    let state = ours.state;
-    Walk { state, size }
-}
-
-// Tries every action in its order.
-fn step_through(
-    tally: &mut Tally,
-    net: Network,
-    begun: Walk,
-    world: &mut World,
-    list: &mut [u8],
-    order: &[u8],
-    count: usize,
-) -> Walk {
-    let plan = plan_of(net);
-    let mut walk = begun;
-    for i in 0..count {
-        let action = action_at(order, i);
-        let next = step(tally, net, walk, &plan, world, list, &action);
-        walk = next;
-    }
-    walk
-}
-
-// The same from where a run has come to, and the states after it compared.
-fn sweep(
-    tally: &mut Tally,
-    net: Network,
-    begun: Walk,
-    list: &mut [u8],
-    order: &[u8],
-    count: usize,
-) -> Walk {
-    let before = begun.state;
-    let mut world = [0u16; WORLD];
-    draw_state(&mut world, net, before);
-    let walk = step_through(tally, net, begun, &mut world, list, order, count);
-    let after = walk.state;
-    same_state(tally, net, after, &world);
-    walk
-}
-
-// Sweeps in one order after another, until one takes nothing or so many are done.
-fn walk_on(
-    tally: &mut Tally,
-    dice: &mut u64,
-    net: Network,
-    state: State,
-    list: &mut [u8],
-    sweeps: usize,
-) -> Walk {
-    let mut order = [0u8; ORDER];
-    let count = list_actions(&mut order, net);
-    let mut walk = Walk { state, size: 0 };
-    for _ in 0..sweeps {
-        shuffle(&mut order, dice, count);
-        let next = sweep(tally, net, walk, list, &order, count);
-        if next.size == walk.size {
-            return next;
-        }
-        walk = next;
-    }
-    walk
-}
-
-// The first so many bytes of a list.
-fn try_part(tally: &mut Tally, net: Network, state: State, list: &[u8], size: usize) {
-    if size < list.len() {
-        try_list(tally, net, state, &list[0..size]);
+fn action_of(pairs: &Pairs, kind: Kind, x: u8) -> Action {
+    let (p, q) = if kind.is_of_directions() {
+        pairs.pair(x)
     } else {
-        try_list(tally, net, state, list);
+        (x, x)
+    };
+    [kind.number(), p, q]
+}
+
+// As many bytes of an action as are read of it.
+fn read_of(action: &Action) -> &[u8] {
+    match Kind::try_from(action[0]) {
+        Ok(kind) if kind.is_of_directions() => action,
+        _ => &action[..2],
     }
 }
 
-// The list with one damage after another.
-fn try_damaged(
-    tally: &mut Tally,
-    dice: &mut u64,
+// A run of both sides on a network that 17 does not refuse: the bench's state, and the actions that it took.
+#[derive(Drop)]
+struct Walk {
     net: Network,
+    plan: Plan,
     state: State,
-    list: &mut [u8],
-    size: usize,
-) {
-    let mut left = size;
-    for _ in 0..3usize {
-        let next = damage_bytes(list, dice, left);
-        left = next;
-        try_part(tally, net, state, list, left);
+    list: Bytes<LIST>,
+}
+
+impl Walk {
+    fn new(net: &Network, state: &State) -> Walk {
+        Walk {
+            net: *net,
+            plan: plan_of(net),
+            state: *state,
+            list: Bytes::new(),
+        }
+    }
+
+    // One action of both sides.
+    fn step(&mut self, tally: &mut Tally, world: &mut World, action: &Action) {
+        let ours = self.state.act(self.net, action);
+        let theirs = Answer::from(second::act(&self.plan, world, action, 0));
+        tally.same_answer("action's answer", ours.answer, theirs.number);
+        if ours.answer == 0 {
+            self.list.extend(read_of(action));
+        }
+        self.state = ours.state;
+    }
+
+    // Every action in its order, and the states after it compared.
+    fn sweep(&mut self, tally: &mut Tally, actions: &[Action]) {
+        let mut world = world_of(&self.net, &self.state);
+        for action in actions {
+            self.step(tally, &mut world, action);
+        }
+        same_state(tally, &self.net, &self.state, &world);
+    }
+
+    // Sweeps in one order after another, until one takes nothing or so many are done.
+    fn walk_on(&mut self, trials: &mut Trials, sweeps: usize) {
+        let mut actions = Actions::of(&self.net);
+        for _ in 0..sweeps {
+            let taken = self.list.len();
+            actions.shuffle(&mut trials.dice);
+            self.sweep(&mut trials.tally, actions.as_slice());
+            if self.list.len() == taken {
+                return;
+            }
+        }
     }
 }
 
 // A kind, known or not, and two numbers, most of them of nodes.
-pub fn any_action(dice: &mut u64, nodes: usize) -> Action {
-    let kind = plus(below(dice, 22), 15);
-    let most = if below(dice, 6) == 0 { 256 } else { nodes };
-    [byte(kind), byte(below(dice, most)), byte(below(dice, most))]
+pub fn any_action(dice: &mut Dice, nodes: usize) -> Action {
+    let kind = dice.below(22) as u8 + 15;
+    let most = if dice.once_in(6) { 256 } else { nodes.min(256) };
+    [kind, dice.below(most) as u8, dice.below(most) as u8]
 }
 
-fn try_prefix(tally: &mut Tally, net: Network, state: State, action: &[u8], size: usize) {
-    if size < action.len() {
-        try_act(tally, net, state, &action[0..size]);
-    } else {
-        try_act(tally, net, state, action);
+// The list with one damage after another.
+fn try_damaged(trials: &mut Trials, net: &Network, state: &State, whole: &Bytes<LIST>) {
+    let mut list = *whole;
+    for _ in 0..3 {
+        list.damage(&mut trials.dice);
+        try_list(&mut trials.tally, net, state, list.as_slice());
     }
 }
 
 // Single actions, cut or not, from bytes and by their methods.
-fn try_singles(tally: &mut Tally, dice: &mut u64, net: Network, state: State) {
-    for _ in 0..2usize {
-        let action = any_action(dice, net.nodes);
-        let size = below(dice, 6);
-        try_prefix(tally, net, state, &action, size);
-        try_method(tally, net, state, &action);
+fn try_singles(trials: &mut Trials, net: &Network, state: &State) {
+    for _ in 0..2 {
+        let action = any_action(&mut trials.dice, net.nodes);
+        let size = trials.dice.below(6).min(action.len());
+        try_act(&mut trials.tally, net, state, &action[..size]);
+        try_method(&mut trials.tally, net, state, &action);
     }
 }
 
 // So many sweeps from a state, what was taken as a list, whole and damaged, and single actions on the last state; that state.
-pub fn try_run(
-    tally: &mut Tally,
-    dice: &mut u64,
-    net: Network,
-    state: State,
-    sweeps: usize,
-) -> State {
-    let mut list = [0u8; LIST];
-    let walk = walk_on(tally, dice, net, state, &mut list, sweeps);
-    let last = walk.state;
-    try_part(tally, net, state, &list, walk.size);
-    try_damaged(tally, dice, net, state, &mut list, walk.size);
-    try_singles(tally, dice, net, last);
-    last
-}
-
-fn compare_values(tally: &mut Tally, values: &[u16; 64], table: &[u16; 64]) {
-    for p in 0..64 {
-        same(
-            tally,
-            b", value after a whole run ",
-            of_word(values[p]),
-            of_word(table[p]),
-        );
-    }
+pub fn try_run(trials: &mut Trials, net: &Network, state: &State, sweeps: usize) -> State {
+    let mut walk = Walk::new(net, state);
+    walk.walk_on(trials, sweeps);
+    try_list(&mut trials.tally, net, state, walk.list.as_slice());
+    try_damaged(trials, net, state, &walk.list);
+    try_singles(trials, net, &walk.state);
+    walk.state
 }
 
 // A complete run: its values are those of the lockstep table.
-pub fn try_whole_run(tally: &mut Tally, dice: &mut u64, net: Network) {
-    let state = try_start(tally, net);
-    let last = try_run(tally, dice, net, state, 4096);
-    let values = last.values;
+pub fn try_whole_run(trials: &mut Trials, net: &Network) {
+    let state = try_start(&mut trials.tally, net);
+    let last = try_run(trials, net, &state, 4096);
     let mut table = [0u16; 64];
-    lockstep::table(net, net.rounds, &mut table);
-    compare_values(tally, &values, &table);
+    let _ = lockstep::table(*net, net.rounds, &mut table);
+    trials
+        .tally
+        .same_list("value after a whole run", &last.values, &table);
 }
