@@ -42,7 +42,7 @@ pub fn try_act(tally: &mut Tally, net: &Network, state: &State, bytes: &[u8]) {
     same_state(tally, net, &ours.state, &world);
 }
 
-// The bench's method of a kind. Those of nodes take the first number alone.
+// The bench's method of a kind. Those of nodes take the first number alone. The methods take state, network and numbers apart, and so does this.
 fn method(kind: Kind, state: State, net: Network, p: u8, q: u8) -> Done {
     match kind {
         Kind::Output => state.output(net, p),

@@ -106,7 +106,8 @@ fn any_load(dice: &mut Dice, sort: u16) -> u16 {
     }
 }
 
-// A number that place x of a sheet may hold, after those of the sheets before it.
+// A number that place x of a sheet may hold, after those of the sheets before it. Sheet and place change at each call, and a struct of them would be
+// made for it alone.
 fn any_number(dice: &mut Dice, state: &State, rounds: u16, sheet: Sheet, x: u8) -> u16 {
     let waiting = usize::from(number(state, Sheet::Queued, x));
     match sheet {

@@ -65,7 +65,7 @@ fn refuse(plan: &Plan, world: &World, action: Action) -> Result<(), Refusal> {
     refuse_for_queue(world, action)
 }
 
-// A message joins the queue p to q, which has room for it.
+// A message joins the queue p to q, which has room for it. A cell is told by its sheet and two nodes, here and in `move_cell`.
 fn enqueue(world: &mut World, p: usize, q: usize, message: Message, load: u16) {
     let free = if waiting(world, p, q) == 0 {
         Place::First

@@ -7,7 +7,8 @@
 use crate::paths::{Path, Paths};
 use second_plan::rows::{Plan, Row};
 
-// The path over x to p, if p may be claimed from x: x is in the cluster of a root and above the depth.
+// The path over x to p, if p may be claimed from x: x is in the cluster of a root and above the depth. Here and below the root changes with the
+// cluster and x and p with the link, and a struct of all would be made for each link.
 fn path_over(paths: &Paths, depth: usize, top: usize, x: usize, p: usize) -> Option<Path> {
     paths
         .path(x)

@@ -36,7 +36,7 @@ impl State {
         mean(set, self.values[p as usize], &heard)
     }
 
-    // d is the direction from p to q, and the action is taken the i-th time.
+    // d is the direction from p to q, and the action is taken the i-th time: each by itself, as `effect_in` has them.
     fn effect(&mut self, wires: &Wires, does: Does, p: u8, d: u8, i: u16)
         requires { p < 64 }
         ensures { self.new ≡ effect_in wires.now does p d i self.old }

@@ -55,7 +55,7 @@ fn known_sizes(trials: &mut Trials) {
     known_plan(&mut trials.tally, &longest, 4, 835);
 }
 
-// An action on P's start state whose answer is known.
+// An action on P's start state whose answer is known: kind, node and answer, as document 01 lists them.
 fn known_action(tally: &mut Tally, net: &Network, kind: Kind, p: u8, number: usize) {
     tally.begin();
     let state = State::start(*net).state;

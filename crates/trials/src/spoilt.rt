@@ -9,7 +9,7 @@ use network::Network;
 use runs::{any_action, try_run};
 use synchronizer::State;
 
-// A network and a state of which 17 is to be said.
+// A network and a state of which 17 is to be said: what each call is handed, and the clause.
 fn try_handed(tally: &mut Tally, net: &Network, state: &State, action: &Action, clause: Clause) {
     try_act(tally, net, state, action);
     try_act(tally, net, state, &[]);
