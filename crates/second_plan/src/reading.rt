@@ -128,7 +128,7 @@ fn enter_node(plan: &mut Plan, bytes: &[u8], p: usize)
     );
 }
 
-// Link l stands after the rounds, so many nodes and l other links: the plan that it enters has its count of nodes last.
+// Link l stands after the rounds, so many nodes and l other links.
 fn enter_link(plan: &mut Plan, bytes: &[u8], nodes: usize, l: usize)
     requires { (nodes ≤ 64) × (l < 128) }
 {
