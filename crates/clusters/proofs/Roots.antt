@@ -1,6 +1,6 @@
 -- The table of roots holds each node's cluster: "its cluster is all nodes whose parents lead to it".
 -- Assumes nothing.
-use Prim.Native.Nat.{ℕ, ◌<◌, ◌≤◌}
+use Prim.Native.Nat.{ℕ, ◌<◌, ◌≤◌, min}
 use native.Mathlib.Omega.{arith}
 use native.Mathlib.Decide.{dec_lt}
 use mathlib.Core.Path.{◌≡◌, refl, sym, ◌∙◌, ap}
@@ -33,6 +33,10 @@ table_listed parents n few =
     at k h (yes l) = over_below_lem entry n (replicate 64 64) k 0 l (omega (arith, length-replicate {A = ℕ} 64 64))
     at k h (no l) =
         over_above entry n (replicate 64 64) k 0 (omega arith) ∙ get_or-replicate 64 k 64 0 h ∙ sym (ap root_number (no_node (parent_in parents) n n k (omega arith)))
+
+-- a place past the nodes leads to no root
+pub past_nodes : (parents : List ℕ) (nodes p : ℕ) → nodes ≤ p → 64 ≡ root_number (root_from (parent_in parents) (min nodes 64) (min nodes 64) p)
+past_nodes parents nodes p h = sym (ap root_number (no_node (parent_in parents) (min nodes 64) (min nodes 64) p (omega arith)))
 
 module _ (net : Network) where
   abbrev n : ℕ

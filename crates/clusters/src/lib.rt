@@ -2,16 +2,27 @@
 // the roots of all nodes.
 #![tactic(auto)]
 
-ghost use Rattle.std.specs.Prelude.{◌≡◌, ◌<◌, min, eqb};
-ghost use Rattle.laws.specs.Choice.{both};
+ghost use Rattle.std.specs.Prelude.{◌≡◌, ◌<◌, min};
 ghost use Rattle.links.specs.Breach.{place_in};
-ghost use Rattle.links.specs.Links.{links_of, joins};
-ghost use Rattle.clusters.specs.Clusters.{roots_of, root_table, root_at, preferred, cluster_at, first_inside, preferred_between, not_one, first_not_one, cluster_count};
+ghost use Rattle.links.specs.Links.{links_of};
+ghost use Rattle.tree.specs.Climb.{parent_in, root_from, root_number};
+ghost use Rattle.clusters.specs.Clusters.{roots_of, root_table, root_at, cluster_at, inside, first_inside, chosen, preferred_between, not_one, first_not_one, cluster_count};
 
 use links::joins;
 use network::Network;
 use std::array::from_fn;
 use tree::root_in;
+
+// The root that the parents of p lead to; 64 where there is none. Of the 64 places most are no nodes in a small plan, and nothing is looked up for these.
+#[tactic(auto, using(crate::proofs::Roots::past_nodes))]
+fn root_number(parents: &[u8; 64], nodes: usize, p: u8) -> u8
+    ensures { result ≡ root_number (root_from (parent_in parents.now) (min nodes 64) (min nodes 64) p) }
+{
+    if nodes <= p as usize {
+        return 64;
+    }
+    root_in(parents, nodes, p).unwrap_or(64)
+}
 
 // The table of the roots of all nodes; 64, which is no node's number, where there is none: a number and no Option, as the definitions `roots_of` and
 // `root_at` have it, which checks 8 and 9 stand on. A list of parents and its count, and no network: the layout asks for the roots of parents that
@@ -19,7 +30,7 @@ use tree::root_in;
 pub fn root_table(parents: &[u8; 64], nodes: usize) -> [u8; 64]
     ensures { result ≡ roots_of parents.now (min nodes 64) }
 {
-    from_fn(|p| root_in(parents, nodes, p as u8).unwrap_or(64))
+    from_fn(|p| root_number(parents, nodes, p as u8))
 }
 
 // The root of a node by the table; 64 for a number that has no entry.
@@ -28,32 +39,6 @@ pub fn root_at(roots: &[u8; 64], node: u8) -> u8
     ensures { result ≡ root_at roots.now node }
 {
     roots.get(node as usize).copied().unwrap_or(64)
-}
-
-// A link as the clusters see it: the clusters of its ends, and whether it is preferred.
-#[derive(Clone, Copy)]
-struct Bridge {
-    lower: u8,
-    upper: u8,
-    preferred: bool,
-}
-
-impl Bridge {
-    // It is preferred and lies inside a cluster.
-    #[tactic(auto, using(laws::proofs::Choice::picks))]
-    fn is_inside(self) -> bool
-        ensures { result ≡ both self.preferred (eqb self.lower self.upper) }
-    {
-        self.preferred && self.lower == self.upper
-    }
-
-    // It is preferred and joins the clusters x and y.
-    #[tactic(auto, using(laws::proofs::Choice::picks))]
-    fn is_chosen(self, x: u8, y: u8) -> bool
-        ensures { result ≡ both self.preferred (joins self.lower self.upper x y) }
-    {
-        self.preferred && joins(self.lower, self.upper, x, y)
-    }
 }
 
 // A network and the roots of its nodes.
@@ -74,16 +59,41 @@ impl<'a> Clusters<'a> {
         }
     }
 
-    // Link l.
-    fn bridge(&self, l: usize) -> Bridge
+    // The clusters that link l joins, by the roots of its ends.
+    fn ends(&self, l: usize) -> (u8, u8)
         requires { l < 128 }
-        ensures { result ≡ record { lower = cluster_at self.now.roots self.now.net.now.lowers l; upper = cluster_at self.now.roots self.now.net.now.uppers l; preferred = preferred self.now.net.now.flags l } }
+        ensures { (result.0 ≡ cluster_at self.now.roots self.now.net.now.lowers l) × (result.1 ≡ cluster_at self.now.roots self.now.net.now.uppers l) }
     {
-        Bridge {
-            lower: root_at(&self.roots, self.net.lowers[l]),
-            upper: root_at(&self.roots, self.net.uppers[l]),
-            preferred: 0 < self.net.flags[l],
+        let lower = root_at(&self.roots, self.net.lowers[l]);
+        let upper = root_at(&self.roots, self.net.uppers[l]);
+        (lower, upper)
+    }
+
+    // Link l is preferred and lies inside a cluster. Here and below the flag is asked first: few links are preferred, and of the others nobody looks up
+    // the roots.
+    #[tactic(auto, using(laws::proofs::Choice::picks), unfolding(crate::specs::Clusters::inside))]
+    fn is_inside(&self, l: usize) -> bool
+        requires { l < 128 }
+        ensures { result ≡ inside self.now.roots self.now.net.now.lowers self.now.net.now.uppers self.now.net.now.flags l }
+    {
+        if self.net.flags[l] == 0 {
+            return false;
         }
+        let (lower, upper) = self.ends(l);
+        lower == upper
+    }
+
+    // Link l is preferred and joins the clusters x and y.
+    #[tactic(auto, using(laws::proofs::Choice::picks), unfolding(crate::specs::Clusters::chosen))]
+    fn is_chosen(&self, l: usize, x: u8, y: u8) -> bool
+        requires { l < 128 }
+        ensures { result ≡ chosen self.now.roots self.now.net.now.lowers self.now.net.now.uppers self.now.net.now.flags l x y }
+    {
+        if self.net.flags[l] == 0 {
+            return false;
+        }
+        let (lower, upper) = self.ends(l);
+        joins(lower, upper, x, y)
     }
 
     // How many links are preferred and join the clusters x and y.
@@ -91,7 +101,7 @@ impl<'a> Clusters<'a> {
         ensures { result ≡ preferred_between self.now.roots self.now.net.now.lowers self.now.net.now.uppers self.now.net.now.flags (links_of self.now.net.now) x y }
     {
         (0..self.net.links.min(128))
-            .filter(|&l| self.bridge(l).is_chosen(x, y))
+            .filter(|&l| self.is_chosen(l, x, y))
             .count()
     }
 
@@ -109,7 +119,7 @@ pub fn first_inside(net: Network) -> Option<usize>
     ensures { result ≡ place_in (links_of net) (first_inside net) }
 {
     let clusters = Clusters::of(&net);
-    (0..net.links.min(128)).find(|&l| clusters.bridge(l).is_inside())
+    (0..net.links.min(128)).find(|&l| clusters.is_inside(l))
 }
 
 // 9: the first link that joins two clusters with none or several preferred.
@@ -118,8 +128,8 @@ pub fn first_not_one(net: Network) -> Option<usize>
 {
     let clusters = Clusters::of(&net);
     (0..net.links.min(128)).find(|&l| {
-        let link = clusters.bridge(l);
-        clusters.has_not_one(link.lower, link.upper)
+        let (lower, upper) = clusters.ends(l);
+        clusters.has_not_one(lower, upper)
     })
 }
 
