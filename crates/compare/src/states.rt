@@ -2,7 +2,7 @@
 //
 // A number is called by its sheet, one of the second simulator's, and by its place x in it: a node, a direction of a link (2l from a to b of
 // link l, 2l + 1 from b to a), or one past them.
-ghost use Rattle.std.specs.Prelude.{◌≤◌, ◌+◌, length};
+ghost use Rattle.std.specs.Prelude.{◌<◌, ◌≤◌, ◌+◌, length};
 
 use crate::tally::Tally;
 use network::Network;
@@ -29,7 +29,9 @@ fn count_at(kind: Kind, x: u8) -> usize {
     (usize::from(kind.number()) - FIRST) * 256 + usize::from(x)
 }
 
-fn half_at(x: u8, is_second: bool) -> usize {
+fn half_at(x: u8, is_second: bool) -> usize
+    ensures { result < 512 }
+{
     usize::from(x) * 2 + usize::from(is_second)
 }
 
@@ -79,6 +81,18 @@ pub fn blank() -> State {
         queues: Queues::EMPTY,
         slots: [0; 512],
         values: [0; 64],
+    }
+}
+
+// Where a number stands among the lists; past their end for a value that is not there.
+fn index_of(sheet: Sheet, x: u8) -> usize {
+    match sheet {
+        Sheet::Count(kind) => count_at(kind, x),
+        Sheet::Queued => LENS + usize::from(x),
+        Sheet::Sort(place) => SORTS + half_at(x, place == Place::Second),
+        Sheet::Load(place) => LOADS + half_at(x, place == Place::Second),
+        Sheet::Slot(parity) => SLOTS + half_at(x, parity == Parity::Odd),
+        Sheet::Value => VALUES + usize::from(x),
     }
 }
 
@@ -172,20 +186,21 @@ pub fn world_of(net: &Network, state: &State) -> World {
     world
 }
 
-fn state_in(net: &Network, world: &World) -> State {
+// Every number in its place of a state's lists. A state itself has only a byte for a queue's length or a message's sort, and a cell may
+// hold more.
+fn numbers_in(net: &Network, world: &World) -> [u16; NUMBERS] {
     let pairs = Pairs::of(net);
-    let mut state = blank();
+    let mut numbers = [0; NUMBERS];
     for sheet in Sheet::ALL {
         for x in 0..=u8::MAX {
             let (p, q) = pairs.cell(sheet, x);
-            set_number(&mut state, sheet, x, world.cell(sheet, p, q));
+            put(&mut numbers, index_of(sheet, x), world.cell(sheet, p, q));
         }
     }
-    state
+    numbers
 }
 
 // The bench's state is the second simulator's.
 pub fn same_state(tally: &mut Tally, net: &Network, state: &State, world: &World) {
-    let theirs = state_in(net, world);
-    tally.same_list("state entry", &numbers_of(state), &numbers_of(&theirs));
+    tally.same_list("state entry", &numbers_of(state), &numbers_in(net, world));
 }

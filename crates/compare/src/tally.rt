@@ -26,7 +26,7 @@ const OF_THE_PROGRAM: usize = Refusal::TooLong as usize;
 const OF_LAYOUTS: usize = Refusal::TooDeep as usize;
 
 // What is written goes to standard output; why that failed, where it did, is answered in place of the report.
-#[derive(Drop)]
+#[derive(Clone, Copy)]
 pub struct Tally {
     answers: [usize; 24],
     clauses: [usize; 8],

@@ -65,10 +65,10 @@ fn known_action(tally: &mut Tally, net: &Network, kind: Kind, p: u8, number: usi
 
 // "P: .. Subtree ok by node 1: 14. Cluster ok by node 0: 14."
 fn known_actions(tally: &mut Tally) {
-    if let Ok(plan) = try_plan(tally, &P) {
-        known_action(tally, &plan.network, Kind::SubtreeOkSent, 1, 14);
-        known_action(tally, &plan.network, Kind::ClusterOk, 0, 14);
-    }
+    // Were P refused, a network of zeros would answer 17 to both, so that the refusal is told.
+    let net = try_plan(tally, &P).map_or(network::zeros(), |plan| plan.network);
+    known_action(tally, &net, Kind::SubtreeOkSent, 1, 14);
+    known_action(tally, &net, Kind::ClusterOk, 0, 14);
 }
 
 pub(crate) fn try_known(trials: &mut Trials) {
