@@ -2,11 +2,16 @@
 -- contract as the checker generates it (`Post` of the function's `Reads`), so that a loosened contract breaks its line here.
 -- Assumes nothing.
 use Prim.Native.Nat.{ℕ}
-use mathlib.Core.Path.{◌≡◌, refl, sym, ◌∙◌}
+use mathlib.Core.Path.{◌≡◌, refl, sym, ◌∙◌, ap}
 use mathlib.Core.List.{List}
 use contract.Lifetimes.{Lfts}
 use denote.Triple.Clauses.{AtExit}
 use borrow.Fn.Kinds.{ParamKind, ResultKind, Out, Dens, res_t, ended_of}
+use Rattle.std.proofs.Common.{Option, Some, None}
+use Rattle.laws.proofs.Choice.{true_not_false}
+use Rattle.nodeset.specs.Marks.{member, removed}
+use Rattle.nodeset.specs.Walks.{takes_lowest}
+use Rattle.nodeset.proofs.Marks.{empty_has_none}
 use Rattle.records.proofs.Planned.{planned_of-injective}
 use Rattle.layout.proofs.Laid.{laid_of-injective}
 use Rattle.answers.proofs.Named.{answer_of-injective}
@@ -27,6 +32,8 @@ use Rattle.nodeset.proofs.NodeSet.lowest.Kinds as nodeset_lowest_kinds
 use Rattle.nodeset.proofs.NodeSet.lowest.Reads as nodeset_lowest_reads
 use Rattle.nodeset.proofs.NodeSet.without_lowest.Kinds as nodeset_without_lowest_kinds
 use Rattle.nodeset.proofs.NodeSet.without_lowest.Reads as nodeset_without_lowest_reads
+use Rattle.nodeset.proofs.WalkIterator.next.Kinds as nodeset_next_kinds
+use Rattle.nodeset.proofs.WalkIterator.next.Reads as nodeset_next_reads
 use Rattle.network.proofs.Network.with_sets.Kinds as network_with_sets_kinds
 use Rattle.network.proofs.Network.with_sets.Reads as network_with_sets_reads
 use Rattle.network.proofs.Network.valid.Kinds as network_valid_kinds
@@ -73,6 +80,8 @@ use Rattle.lockstep.proofs.mean.Kinds as lockstep_mean_kinds
 use Rattle.lockstep.proofs.mean.Reads as lockstep_mean_reads
 use Rattle.lockstep.proofs.table.Kinds as lockstep_table_kinds
 use Rattle.lockstep.proofs.table.Reads as lockstep_table_reads
+use Rattle.actions.proofs.KindTryFromU8.try_from.Kinds as actions_try_from_kinds
+use Rattle.actions.proofs.KindTryFromU8.try_from.Reads as actions_try_from_reads
 use Rattle.actions.proofs.number.Kinds as actions_number_kinds
 use Rattle.actions.proofs.number.Reads as actions_number_reads
 use Rattle.actions.proofs.index.Kinds as actions_index_kinds
@@ -230,6 +239,20 @@ nodeset_lowest_one κs a x y s t p q = same p q
 pub nodeset_without_lowest_one : OneResult _ nodeset_without_lowest_kinds.ps nodeset_without_lowest_kinds.r nodeset_without_lowest_reads.Post
 nodeset_without_lowest_one κs a x y s t p q = λ i. record { marks = same p q i }
 
+-- a step of a walk: the member taken, and what is left
+one_taken : (left : ℕ) (x y : Option ℕ) (s t : ℕ) → takes_lowest left x s → takes_lowest left y t → (x ≡ y) × (s ≡ t)
+one_taken left None None s t p q = (refl, same p.1 q.1)
+one_taken left None (Some y) s t p q =
+    absurd (true_not_false (member left y) q.is_in (ap (λ m. member m y) p.0 ∙ empty_has_none y))
+one_taken left (Some x) None s t p q =
+    absurd (true_not_false (member left x) p.is_in (ap (λ m. member m x) q.0 ∙ empty_has_none x))
+one_taken left (Some x) (Some y) s t p q =
+    let e : x ≡ y = same p.lowest q.lowest in
+    (ap Some e, p.others ∙ ap (removed left) e ∙ sym q.others)
+
+pub nodeset_next_one : OneEnd _ nodeset_next_kinds.ps nodeset_next_kinds.r nodeset_next_reads.Post (λ κs s. s.0.now)
+nodeset_next_one κs a x y s t p q = one_taken a.0.now x y s.0.now t.0.now p.0 q.0
+
 -- ---- network
 
 pub network_with_sets_one : OneResult _ network_with_sets_kinds.ps network_with_sets_kinds.r network_with_sets_reads.Post
@@ -318,6 +341,9 @@ pub lockstep_table_one : OneEnd _ lockstep_table_kinds.ps lockstep_table_kinds.r
 lockstep_table_one κs a x y s t p q = (answer_of-injective x y (same p.0.0 q.0.0), same p.0.1 q.0.1)
 
 -- ---- actions
+
+pub actions_try_from_one : OneResult _ actions_try_from_kinds.ps actions_try_from_kinds.r actions_try_from_reads.Post
+actions_try_from_one κs a x y s t p q = same p q
 
 pub actions_number_one : OneResult _ actions_number_kinds.ps actions_number_kinds.r actions_number_reads.Post
 actions_number_one κs a x y s t p q = same p q
