@@ -59,14 +59,19 @@ impl<'a> Clusters<'a> {
         }
     }
 
-    // The clusters that link l joins, by the roots of its ends.
-    fn ends(&self, l: usize) -> (u8, u8)
+    // The cluster of link l's lower end, by its root.
+    fn lower(&self, l: usize) -> u8
         requires { l < 128 }
-        ensures { (result.0 ≡ cluster_at self.now.roots self.now.net.now.lowers l) × (result.1 ≡ cluster_at self.now.roots self.now.net.now.uppers l) }
+        ensures { result ≡ cluster_at self.now.roots self.now.net.now.lowers l }
     {
-        let lower = root_at(&self.roots, self.net.lowers[l]);
-        let upper = root_at(&self.roots, self.net.uppers[l]);
-        (lower, upper)
+        root_at(&self.roots, self.net.lowers[l])
+    }
+
+    fn upper(&self, l: usize) -> u8
+        requires { l < 128 }
+        ensures { result ≡ cluster_at self.now.roots self.now.net.now.uppers l }
+    {
+        root_at(&self.roots, self.net.uppers[l])
     }
 
     // Link l is preferred and lies inside a cluster. Here and below the flag is asked first: few links are preferred, and of the others nobody looks up
@@ -76,11 +81,7 @@ impl<'a> Clusters<'a> {
         requires { l < 128 }
         ensures { result ≡ inside self.now.roots self.now.net.now.lowers self.now.net.now.uppers self.now.net.now.flags l }
     {
-        if self.net.flags[l] == 0 {
-            return false;
-        }
-        let (lower, upper) = self.ends(l);
-        lower == upper
+        0 < self.net.flags[l] && self.lower(l) == self.upper(l)
     }
 
     // Link l is preferred and joins the clusters x and y.
@@ -89,11 +90,7 @@ impl<'a> Clusters<'a> {
         requires { l < 128 }
         ensures { result ≡ chosen self.now.roots self.now.net.now.lowers self.now.net.now.uppers self.now.net.now.flags l x y }
     {
-        if self.net.flags[l] == 0 {
-            return false;
-        }
-        let (lower, upper) = self.ends(l);
-        joins(lower, upper, x, y)
+        0 < self.net.flags[l] && joins(self.lower(l), self.upper(l), x, y)
     }
 
     // How many links are preferred and join the clusters x and y.
@@ -127,10 +124,7 @@ pub fn first_not_one(net: Network) -> Option<usize>
     ensures { result ≡ place_in (links_of net) (first_not_one net) }
 {
     let clusters = Clusters::of(&net);
-    (0..net.links.min(128)).find(|&l| {
-        let (lower, upper) = clusters.ends(l);
-        clusters.has_not_one(lower, upper)
-    })
+    (0..net.links.min(128)).find(|&l| clusters.has_not_one(clusters.lower(l), clusters.upper(l)))
 }
 
 // "Clusters is the number of roots."
