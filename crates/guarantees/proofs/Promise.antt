@@ -20,9 +20,11 @@ use Rattle.guarantees.specs.Promise.{PlanPromise, StartPromise, TablePromise, Tr
 use Rattle.guarantees.proofs.Outcomes.{method_outcome, act_outcome, list_outcome}
 use Rattle.guarantees.proofs.Promised.{plan_promise, start_promise, table_promise, trial_promise}
 use Rattle.answers.specs.Numbers.{answer_of}
-use Rattle.records.specs.Planned.{planned_of}
+use Rattle.records.specs.Planned.{planned_of, handed_of}
 use Rattle.plan.proofs.read_plan.Kinds as read_plan_kinds
 use Rattle.plan.proofs.read_plan.Reads as read_plan_reads
+use Rattle.plan.proofs.read_plan_into.Kinds as read_plan_into_kinds
+use Rattle.plan.proofs.read_plan_into.Reads as read_plan_into_reads
 use Rattle.lockstep.proofs.table.Kinds as table_kinds
 use Rattle.lockstep.proofs.table.Reads as table_reads
 use Rattle.report.proofs.trial.Kinds as trial_kinds
@@ -84,6 +86,9 @@ Meets n ps r Post P = (κs : Lfts n) (a : Dens κs ps) (x : (res_t r κs).Denot)
 
 pub read_plan : Meets _ read_plan_kinds.ps read_plan_kinds.r read_plan_reads.Post (λ κs a x t. PlanPromise a.0.now (planned_of x))
 read_plan κs a x t p = subst (PlanPromise a.0.now) (sym p.0) (plan_promise a.0.now p.1)
+
+pub read_plan_into : Meets _ read_plan_into_kinds.ps read_plan_into_kinds.r read_plan_into_reads.Post (λ κs a x t. PlanPromise a.0.now (handed_of x t.1.0.now))
+read_plan_into κs a x t p = subst (PlanPromise a.0.now) (sym p.0) (plan_promise a.0.now p.1)
 
 pub start : Meets _ start_kinds.ps start_kinds.r start_reads.Post (λ κs a x t. StartPromise a.0 x)
 start κs a x t p = subst (StartPromise a.0) (sym p) (start_promise a.0)

@@ -12,7 +12,7 @@ use Rattle.laws.proofs.Choice.{true_not_false}
 use Rattle.nodeset.specs.Marks.{member, removed}
 use Rattle.nodeset.specs.Walks.{takes_lowest}
 use Rattle.nodeset.proofs.Marks.{empty_has_none}
-use Rattle.records.proofs.Planned.{planned_of-injective}
+use Rattle.records.proofs.Planned.{planned_of-injective, handed_of-injective}
 use Rattle.layout.proofs.Laid.{laid_of-injective}
 use Rattle.answers.proofs.Named.{answer_of-injective}
 use Rattle.queue.specs.declared.Queues.{Queues}
@@ -46,6 +46,8 @@ use Rattle.records.proofs.Cursor.read.Kinds as records_read_kinds
 use Rattle.records.proofs.Cursor.read.Reads as records_read_reads
 use Rattle.records.proofs.read_lists.Kinds as records_read_lists_kinds
 use Rattle.records.proofs.read_lists.Reads as records_read_lists_reads
+use Rattle.records.proofs.read_lists_into.Kinds as records_read_lists_into_kinds
+use Rattle.records.proofs.read_lists_into.Reads as records_read_lists_into_reads
 use Rattle.links.proofs.joins.Kinds as links_joins_kinds
 use Rattle.links.proofs.joins.Reads as links_joins_reads
 use Rattle.links.proofs.has_link.Kinds as links_has_link_kinds
@@ -76,6 +78,8 @@ use Rattle.answers.proofs.none_at.Kinds as answers_none_at_kinds
 use Rattle.answers.proofs.none_at.Reads as answers_none_at_reads
 use Rattle.plan.proofs.read_plan.Kinds as plan_read_plan_kinds
 use Rattle.plan.proofs.read_plan.Reads as plan_read_plan_reads
+use Rattle.plan.proofs.read_plan_into.Kinds as plan_read_plan_into_kinds
+use Rattle.plan.proofs.read_plan_into.Reads as plan_read_plan_into_reads
 use Rattle.lockstep.proofs.mean.Kinds as lockstep_mean_kinds
 use Rattle.lockstep.proofs.mean.Reads as lockstep_mean_reads
 use Rattle.lockstep.proofs.table.Kinds as lockstep_table_kinds
@@ -275,6 +279,9 @@ records_read_one κs a x y s t p q = same p q
 pub records_read_lists_one : OneResult _ records_read_lists_kinds.ps records_read_lists_kinds.r records_read_lists_reads.Post
 records_read_lists_one κs a x y s t p q = planned_of-injective x y (same p q)
 
+pub records_read_lists_into_one : OneEnd _ records_read_lists_into_kinds.ps records_read_lists_into_kinds.r records_read_lists_into_reads.Post (λ κs s. s.1.0.now)
+records_read_lists_into_one κs a x y s t p q = handed_of-injective x y s.1.0.now t.1.0.now (same p q)
+
 -- ---- links
 
 pub links_joins_one : OneResult _ links_joins_kinds.ps links_joins_kinds.r links_joins_reads.Post
@@ -331,6 +338,9 @@ answers_none_at_one κs a x y s t p q = same p q
 
 pub plan_read_plan_one : OneResult _ plan_read_plan_kinds.ps plan_read_plan_kinds.r plan_read_plan_reads.Post
 plan_read_plan_one κs a x y s t p q = planned_of-injective x y (same p.0 q.0)
+
+pub plan_read_plan_into_one : OneEnd _ plan_read_plan_into_kinds.ps plan_read_plan_into_kinds.r plan_read_plan_into_reads.Post (λ κs s. s.1.0.now)
+plan_read_plan_into_one κs a x y s t p q = handed_of-injective x y s.1.0.now t.1.0.now (same p.0 q.0)
 
 -- ---- lockstep
 

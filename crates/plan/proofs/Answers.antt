@@ -8,7 +8,7 @@ use mathlib.Core.Path.{◌≡◌, refl, sym, ◌∙◌, ap, subst₂}
 use mathlib.Core.Logic.{◌↔◌, ⊎_elim}
 use mathlib.Core.List.{List}
 use Rattle.laws.specs.Lists.{Bytes}
-use Rattle.laws.proofs.Choice.{if_eq_yes, if_eq_no}
+use Rattle.laws.proofs.Choice.{if_eq_yes, if_eq_no, eq_elim}
 use Rattle.network.specs.declared.Network.{Network}
 use Rattle.network.specs.Sets.{with_sets}
 use Rattle.records.specs.Numbers.{accepted}
@@ -16,7 +16,8 @@ use Rattle.network.specs.Zeros.{zero_network}
 use Rattle.records.specs.Reader.{refused_with, accepted_with, lists_of}
 use Rattle.records.specs.Plan.{network_of}
 use Rattle.records.specs.Keeps.{Accepted1to5}
-use Rattle.records.proofs.Answers.{answer_accepted, answer_refused, every_answer}
+use Rattle.records.proofs.Answers.{answer_accepted, answer_refused, every_answer, refused_has_zeros}
+use Rattle.records.proofs.Planned.{ZerosIfRefused}
 use Rattle.records.proofs.Through.{accepted_answer, refused_answer, refused_is_no_0}
 use Rattle.plan.specs.Checks.{checks_of, plan_of}
 use Rattle.plan.specs.Accepted.{plan_network, Accepted, Refused, by_record, by_whole}
@@ -31,6 +32,14 @@ listed_is_checked s n net e = rw e (if_eq_yes accepted accepted _ _ refl)
 pub refused_stays : (s : List ℕ) (k w : ℕ) → lists_of s ≡ refused_with k w → (k ≡ accepted → ⊥) → plan_of s ≡ refused_with k w
 unfolding plan_of
 refused_stays s k w e d = rw e (if_eq_no k accepted _ _ d)
+
+-- refused by a walk or by a record, it has zeros
+pub refused_plan_has_zeros : (s : List ℕ) → Bytes s → ZerosIfRefused (plan_of s)
+unfolding plan_of
+refused_plan_has_zeros s small =
+    eq_elim ZerosIfRefused (lists_of s).number accepted _ _
+    (λ _. checks_cases _ _ ZerosIfRefused (λ k w b d. refl) (λ K d. absurd (d refl)))
+    (λ _. refused_has_zeros s small)
 
 -- ---- from what the bytes hold to the answer
 

@@ -11,9 +11,10 @@ use Rattle.answers.specs.declared.Refusal.{Refusal}
 use Rattle.answers.specs.declared.Refused.{Refused}
 use Rattle.answers.specs.Numbers.{number_of, none_at}
 use Rattle.network.specs.declared.Network.{Network}
-use Rattle.records.specs.Planned.{Planned, planned_of}
+use Rattle.network.specs.Zeros.{zero_network}
+use Rattle.records.specs.Planned.{Planned, handed_of}
 use Rattle.records.specs.Numbers.{accepted}
-use Rattle.records.specs.Reader.{refused_with, accepted_with}
+use Rattle.records.specs.Reader.{answered, refused_with, accepted_with}
 use Rattle.links.specs.Breach.{Breach, place_in}
 use Rattle.links.specs.Links.{nodes_of, links_of}
 use Rattle.links.proofs.Breach.{breach_unique, place_yes, place_no}
@@ -83,10 +84,11 @@ module _ (first n : ℕ) (refusal : Refusal) (f : Option ℕ) (r : Result ⊤ Re
     none_cases P b k =
         lt_elim P first n (refused_with (number_of refusal) first) rest (λ l. b (at_first l)) (λ l. k (nowhere l))
 
-    -- refused, the walk's answer is what all of them come to
-    pub walk_stops : (e : Refused) → r ≡ Err e → planned_of (Err e) ≡ unless_below first n (number_of refusal) rest
-    walk_stops e q =
-        none_cases (λ x. planned_of (Err e) ≡ x)
+    -- refused, the walk's answer is what all of them come to, beside the zeros that stand in what was lent
+    pub walk_stops : (e : Refused) (lent : Network) → r ≡ Err e → lent ≡ zero_network → handed_of (Err e) lent ≡ unless_below first n (number_of refusal) rest
+    walk_stops e lent q zeros =
+        ap (answered _ e.place) zeros
+        ∙ none_cases (λ x. refused_with (number_of e.refusal) e.place ≡ x)
         (λ p. let d : e ≡ record { refusal = refusal; place = first } = cc in ap (λ x. refused_with (number_of x.refusal) x.place) d)
         (λ p. cc)
 

@@ -4,18 +4,21 @@
 
 ghost use Rattle.std.specs.Prelude.{◌≡◌};
 ghost use Rattle.laws.specs.Lists.{Bytes};
-ghost use Rattle.records.specs.Planned.{planned_of};
+ghost use Rattle.network.specs.Zeros.{zero_network};
+ghost use Rattle.records.specs.Planned.{planned_of, handed_of};
 ghost use Rattle.plan.specs.Checks.{checks_of, plan_of};
 
 use answers::{Refusal, Refused, none_at};
 use clusters::{first_inside, first_not_one};
 use joined::first_unjoined;
+use network::{Network, zeros};
 use records::{Plan, read_lists};
 use tree::{first_lost, first_untied};
 
-// Five walks, each for the lowest node or the first link that breaks its rule.
-fn check_whole(plan: Plan) -> Result<Plan, Refused>
-    ensures { planned_of result ≡ checks_of plan.network plan.taken }
+// Five walks, each for the lowest node or the first link that breaks its rule. What was lent stays zeros unless all five find none.
+fn check_whole(plan: Plan, network: &mut Network) -> Result<usize, Refused>
+    requires { network.old ≡ zero_network }
+    ensures { handed_of result network.new ≡ checks_of plan.network plan.taken }
 {
     let net = plan.network;
     none_at(first_untied(net), Refusal::Untied)?;
@@ -23,7 +26,8 @@ fn check_whole(plan: Plan) -> Result<Plan, Refused>
     none_at(first_inside(net), Refusal::Inside)?;
     none_at(first_not_one(net), Refusal::NotOne)?;
     none_at(first_unjoined(net), Refusal::Unjoined)?;
-    Ok(plan)
+    *network = net;
+    Ok(plan.taken)
 }
 
 // Any bytes: how many of them the plan takes and its network with the sets filled; or 1 to 10, and document 01's place for it.
@@ -31,7 +35,21 @@ pub fn read_plan(bytes: &[u8]) -> Result<Plan, Refused>
     ensures answer { planned_of result ≡ plan_of bytes.now }
     ensures small { Bytes bytes.now }
 {
-    let Plan { taken, network } = read_lists(bytes)?;
-    let network = network.with_sets();
-    check_whole(Plan { taken, network })
+    let mut network = zeros();
+    let taken = read_plan_into(bytes, &mut network)?;
+    Ok(Plan { taken, network })
+}
+
+// The same into a network that is lent: "A refused plan hands back a network of zeros".
+pub fn read_plan_into(bytes: &[u8], network: &mut Network) -> Result<usize, Refused>
+    ensures answer { handed_of result network.new ≡ plan_of bytes.now }
+    ensures small { Bytes bytes.now }
+{
+    *network = zeros();
+    let lists = read_lists(bytes)?;
+    let plan = Plan {
+        network: lists.network.with_sets(),
+        ..lists
+    };
+    check_whole(plan, network)
 }

@@ -17,6 +17,7 @@ use Rattle.records.specs.Plan.{Plan, bytes_of, network_of, Keeps1to5}
 use Rattle.records.specs.Keeps.{Accepted1to5, Refused1to5}
 use Rattle.records.proofs.Networks.{one_plan}
 use Rattle.records.proofs.Outcome.{Outcome, taken, stopped, outcome}
+use Rattle.records.proofs.Planned.{ZerosIfRefused}
 use Rattle.records.proofs.Through.{accepted_answer, refused_answer}
 
 -- an accepted plan has a node, so its network is not that of zeros
@@ -58,6 +59,13 @@ module _ (s : List ℕ) (small : Bytes s) where
       by (stopped k w d q F) = inr (k, w, q, d)
 
 -- ---- what follows
+
+pub refused_has_zeros : (s : List ℕ) → Bytes s → ZerosIfRefused (lists_of s)
+refused_has_zeros s small = by (outcome s small)
+  where
+    by : Outcome s → ZerosIfRefused (lists_of s)
+    by (taken n net q A) d = absurd (d (ap (λ x. x.number) q))
+    by (stopped k w c q F) d = ap (λ x. x.network) q
 
 -- bytes past kind 0 are never looked at
 pub rest_is_not_read : (s t : List ℕ) → Bytes s → (n : ℕ) (net : Network) → lists_of s ≡ accepted_with n net → n ≤ length t → take n t ≡ take n s → lists_of t ≡ accepted_with n net

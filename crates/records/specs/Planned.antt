@@ -13,7 +13,12 @@ pub record Planned : Type 0 where
   pub place : ℕ
   pub network : Network
 
--- "A refused plan hands back a network of zeros": a result of the code has none to hand back
+-- "A refused plan hands back a network of zeros": a `Result<Plan, Refused>` has none to hand back
 abbrev pub planned_of : Result Plan Refused → Planned
 planned_of (Ok p) = record { number = 0; place = p.taken; network = p.network }
 planned_of (Err e) = record { number = number_of e.refusal; place = e.place; network = zero_network }
+
+-- the same of a network that was lent: what is said, and what the network then holds
+abbrev pub handed_of : Result ℕ Refused → Network → Planned
+handed_of (Ok n) net = record { number = 0; place = n; network = net }
+handed_of (Err e) net = record { number = number_of e.refusal; place = e.place; network = net }

@@ -3,7 +3,7 @@
 
 ghost use Rattle.std.specs.Prelude.{◌≡◌, ◌<◌, ◌≤◌};
 ghost use Rattle.answers.specs.Numbers.{answer_of};
-ghost use Rattle.records.specs.Planned.{planned_of};
+ghost use Rattle.records.specs.Planned.{planned_of, handed_of};
 ghost use Rattle.records.specs.Record.{found_at, read_at};
 ghost use Rattle.records.specs.Rules.{rounds_rule, node_rule, link_rule, end_rule, follows_of, rule_of};
 ghost use Rattle.records.specs.Reader.{node_added, link_added, HasRoom, add_of, lists_of};
@@ -194,18 +194,28 @@ pub fn read_lists(bytes: &[u8]) -> Result<Plan, Refused>
     ensures { planned_of result ≡ lists_of bytes.now }
 {
     let mut network = zeros();
+    let taken = read_lists_into(bytes, &mut network)?;
+    Ok(Plan { taken, network })
+}
+
+// The same into a network that is lent: "A refused plan hands back a network of zeros". The lists grow apart from it, and are put into it at kind 0.
+pub fn read_lists_into(bytes: &[u8], network: &mut Network) -> Result<usize, Refused>
+    ensures { handed_of result network.new ≡ lists_of bytes.now }
+{
+    *network = zeros();
+    let mut lists = zeros();
     let mut cursor = Cursor { at: 0 };
     loop {
         let (rec, next) = cursor.read(bytes)?;
-        if let Err(refusal) = rule(&network, rec) {
+        if let Err(refusal) = rule(&lists, rec) {
             let place = cursor.at;
             return Err(Refused { refusal, place });
         }
         if rec == Record::End {
-            let taken = next.at;
-            return Ok(Plan { taken, network });
+            *network = lists;
+            return Ok(next.at);
         }
-        add(&mut network, rec);
+        add(&mut lists, rec);
         cursor = next;
     }
 }
