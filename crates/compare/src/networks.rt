@@ -9,7 +9,7 @@ fn byte(x: usize) -> u8 {
     (x % 256) as u8
 }
 
-fn word(x: usize) -> u16 {
+pub(crate) fn word(x: usize) -> u16 {
     (x % 65536) as u16
 }
 

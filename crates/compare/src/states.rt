@@ -4,9 +4,12 @@
 // link l, 2l + 1 from b to a), or one past them.
 ghost use Rattle.std.specs.Prelude.{◌<◌, ◌≤◌, ◌+◌, length};
 
+use crate::networks::word;
 use crate::tally::Tally;
 use network::Network;
 use queue::Queues;
+use second_plan::named::Names;
+pub use second_plan::sheets::of_directions;
 use second_plan::sheets::{FIRST, Kind, Parity, Place, SHEET, Sheet, World};
 use std::array;
 use synchronizer::State;
@@ -35,8 +38,16 @@ fn half_at(x: u8, is_second: bool) -> usize
     usize::from(x) * 2 + usize::from(is_second)
 }
 
+// The sheet and the place that a number is called by, if there may be such a number.
+fn called<S: Names<Sheet>>(sheet: S, x: usize) -> Option<(Sheet, u8)> {
+    Some((sheet.named()?, u8::try_from(x).ok()?))
+}
+
 // A number that is not there reads as 0, and a write to it is none.
-pub fn number(state: &State, sheet: Sheet, x: u8) -> u16 {
+pub fn number<S: Names<Sheet>>(state: &State, sheet: S, x: usize) -> u16 {
+    let Some((sheet, x)) = called(sheet, x) else {
+        return 0;
+    };
     let queues = &state.queues;
     let found = match sheet {
         Sheet::Count(kind) => state.counts.get(count_at(kind, x)).copied(),
@@ -61,7 +72,12 @@ fn put<T: Copy>(list: &mut [T], at: usize, x: T) {
     }
 }
 
-pub fn set_number(state: &mut State, sheet: Sheet, x: u8, to: u16) {
+// What is written keeps the two low bytes, and in a place of one byte the low one.
+pub fn set_number<S: Names<Sheet>>(state: &mut State, sheet: S, x: usize, to: usize) {
+    let Some((sheet, x)) = called(sheet, x) else {
+        return;
+    };
+    let to = word(to);
     let [_, low] = to.to_be_bytes();
     let queues = &mut state.queues;
     match sheet {
@@ -122,7 +138,7 @@ fn are_linked(net: &Network, p: usize, q: usize) -> bool {
 }
 
 // For each direction its pair of nodes; those past the links have pairs that no link joins.
-#[derive(Clone, Copy)]
+#[derive(Clone, Copy, Debug, PartialEq, Eq)]
 pub struct Pairs {
     ends: [(u8, u8); 256],
 }
@@ -141,14 +157,15 @@ impl Pairs {
         Pairs { ends }
     }
 
-    pub fn pair(&self, d: u8) -> (u8, u8) {
-        self.ends[usize::from(d)]
+    // The pair of direction d; past the last one nodes 0 and 0.
+    pub fn pair(&self, d: usize) -> (u8, u8) {
+        self.ends.get(d).copied().unwrap_or((0, 0))
     }
 
     // The cell of place x of a sheet. A node's is (x, x), and one past all nodes has one beside it.
     fn cell(&self, sheet: Sheet, x: u8) -> (usize, usize) {
         if sheet.is_of_directions() {
-            let (p, q) = self.pair(x);
+            let (p, q) = self.pair(usize::from(x));
             (usize::from(p), usize::from(q))
         } else {
             let x = usize::from(x);
@@ -164,9 +181,9 @@ pub fn directions_of(net: &Network) -> usize
     net.links % 129 * 2
 }
 
-// How many nodes or directions a sheet has.
-pub fn used_by(net: &Network, sheet: Sheet) -> usize {
-    if sheet.is_of_directions() {
+// How many nodes or directions a sheet has; as many as nodes where no sheet is called so.
+pub fn used_by<S: Names<Sheet>>(net: &Network, sheet: S) -> usize {
+    if of_directions(sheet) {
         directions_of(net)
     } else {
         net.nodes
@@ -180,7 +197,7 @@ pub fn world_of(net: &Network, state: &State) -> World {
     for sheet in Sheet::ALL {
         for x in 0..=u8::MAX {
             let (p, q) = pairs.cell(sheet, x);
-            world.set_cell(sheet, p, q, number(state, sheet, x));
+            world.set_cell(sheet, p, q, number(state, sheet, usize::from(x)));
         }
     }
     world

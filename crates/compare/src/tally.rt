@@ -1,8 +1,12 @@
 // What the trials come to: how often each answer came, how often each clause of 17, how many numbers were compared and how many of them
 // differed. The first difference of a trial is written out with the trial's number.
+ghost use Rattle.std.specs.Prelude.{◌≡◌, ◌<◌, ◌≤◌, IsSome, None};
+
 use answers::{Refusal, Refused};
 use draws::dice::Dice;
 use second_plan::answers::Answer;
+use second_plan::named::Names;
+use std::convert::AsSlice;
 use std::io;
 use std::io::{Print, Stdout};
 
@@ -17,6 +21,37 @@ pub enum Clause {
     Queues,
     Messages,
     Past,
+}
+
+impl Clause {
+    // By number, from 1 on.
+    pub const ALL: [Clause; 8] = [
+        Clause::Limits,
+        Clause::Ends,
+        Clause::Rising,
+        Clause::Derived,
+        Clause::Counts,
+        Clause::Queues,
+        Clause::Messages,
+        Clause::Past,
+    ];
+}
+
+impl Names<Clause> for Clause {
+    fn named(self) -> Option<Clause> {
+        Some(self)
+    }
+}
+
+impl Names<Clause> for usize {
+    fn named(self) -> Option<Clause>
+        ensures there { 1 ≤ self → self < 9 → IsSome result }
+        ensures none_below { self < 1 → result ≡ None }
+        ensures none { 9 ≤ self → result ≡ None }
+    {
+        self.checked_sub(1)
+            .and_then(|i| Clause::ALL.get(i).copied())
+    }
 }
 
 // The bench program's own answer, which is never one of these.
@@ -94,23 +129,45 @@ impl Tally {
         raise(&mut self.trials, 1);
     }
 
-    fn differ(&mut self, what: &str, place: usize, bench: usize, second: usize) {
+    // The line of a difference. The name of what differs goes out as it is, whether its bytes are text or not.
+    fn write_difference<W: AsSlice<u8> + Copy>(
+        &self,
+        what: W,
+        place: usize,
+        bench: usize,
+        second: usize,
+    ) -> io::Result<()> {
+        let trial = self.trials;
+        print!(self.out; "trial {trial}, ")?;
+        self.out.write_all(what.as_slice())?;
+        println!(self.out; " {place}: the bench has {bench}, the second simulator {second}")
+    }
+
+    fn differ<W: AsSlice<u8> + Copy>(
+        &mut self,
+        what: W,
+        place: usize,
+        bench: usize,
+        second: usize,
+    ) {
         raise(&mut self.different, 1);
         if self.told == self.trials {
             return;
         }
         self.told = self.trials;
-        let trial = self.trials;
-        let line = println!(self.out;
-            "trial {trial}, {what} {place}: the bench has {bench}, the second simulator {second}"
-        );
+        let line = self.write_difference(what, place, bench, second);
         if line.is_err() {
             self.written = line;
         }
     }
 
     // Two lists of one length that have to be the same.
-    pub fn same_list<T: Copy + Into<usize>>(&mut self, what: &str, bench: &[T], second: &[T]) {
+    pub fn same_list<W: AsSlice<u8> + Copy, T: Copy + Into<usize>>(
+        &mut self,
+        what: W,
+        bench: &[T],
+        second: &[T],
+    ) {
         raise(&mut self.compared, bench.len());
         for (place, (x, y)) in bench.iter().zip(second).enumerate() {
             let (x, y) = ((*x).into(), (*y).into());
@@ -121,21 +178,23 @@ impl Tally {
         }
     }
 
-    pub fn same(&mut self, what: &str, bench: usize, second: usize) {
+    pub fn same<W: AsSlice<u8> + Copy>(&mut self, what: W, bench: usize, second: usize) {
         self.same_list(what, &[bench], &[second]);
     }
 
     // Two answers that have to be one; the bench's is counted.
-    pub fn same_answer(&mut self, what: &str, bench: u8, second: u8) {
+    pub fn same_answer<W: AsSlice<u8> + Copy>(&mut self, what: W, bench: u8, second: u8) {
         if let Some(times) = self.answers.get_mut(usize::from(bench)) {
             raise(times, 1);
         }
         self.same(what, usize::from(bench), usize::from(second));
     }
 
-    // A network or a state that a clause of 17 keeps out.
-    pub fn count_clause(&mut self, clause: Clause) {
-        raise(&mut self.clauses[clause as usize], 1);
+    // A network or a state that a clause of 17 keeps out; what names no clause counts nothing.
+    pub fn count_clause<C: Names<Clause>>(&mut self, clause: C) {
+        if let Some(clause) = clause.named() {
+            raise(&mut self.clauses[clause as usize], 1);
+        }
     }
 
     // The last lines of a report.

@@ -112,23 +112,34 @@ fn fill_past(plan: &mut Plan, dice: &mut Dice) -> Clause {
     Clause::Past
 }
 
-// A network with one entry changed, each way in its turn, and the clause that applies. A list is changed only where there are two links; and
-// the sets are then made again half the time, so that nothing but the list is wrong.
-pub fn spoilt_network(dice: &mut Dice, net: &Network, turn: usize) -> (Network, Clause) {
+// One entry of a network changed, each way in its turn; the clause that it breaks. A list is changed only where there are two links.
+pub fn spoil_network(plan: &mut Plan, dice: &mut Dice, turn: usize) -> Clause {
     let wanted = turn % Way::ALL.len();
-    let way = if net.links < 2 {
+    let way = if plan.links() < 2 {
         Way::ALL[wanted % OF_NO_LIST]
     } else {
         Way::ALL[wanted]
     };
-    let mut plan = plan_of(net);
-    let clause = way.spoil(&mut plan, dice);
-    let spoilt = network_of(&plan);
+    way.spoil(plan, dice)
+}
+
+// The network of a plan that was spoilt in its turn. Of a changed list the sets are made again half the time, so that nothing but the list is
+// wrong.
+pub fn network_from(plan: &Plan, dice: &mut Dice, turn: usize) -> Network {
+    let wanted = turn % Way::ALL.len();
+    let spoilt = network_of(plan);
     if wanted >= OF_NO_LIST && dice.once_in(2) {
-        (spoilt.with_sets(), clause)
+        spoilt.with_sets()
     } else {
-        (spoilt, clause)
+        spoilt
     }
+}
+
+// A network with one entry changed, each way in its turn, and the clause that applies.
+pub fn spoilt_network(dice: &mut Dice, net: &Network, turn: usize) -> (Network, Clause) {
+    let mut plan = plan_of(net);
+    let clause = spoil_network(&mut plan, dice, turn);
+    (network_from(&plan, dice, turn), clause)
 }
 
 // A network that 17 lets pass, though its parents may run in rings and its preferred links join what they like.

@@ -32,8 +32,8 @@ impl Way {
 
     // One entry of a state changed, after one message was made to wait on a direction; the clause that then applies.
     fn spoil(self, state: &mut State, dice: &mut Dice, net: &Network) -> Clause {
-        let d = dice.below(directions_of(net)) as u8;
-        let some = dice.below(255) as u16 + 1;
+        let d = dice.below(directions_of(net));
+        let some = dice.below(255) + 1;
         let sort = if self == Way::AckWithLoad {
             Message::Ack
         } else {
@@ -42,12 +42,12 @@ impl Way {
         one_waits(state, d, sort);
         match self {
             Way::CountHigh => count_high(state, dice, net),
-            Way::QueueLong => set_number(state, Sheet::Queued, d, dice.below(253) as u16 + 3),
+            Way::QueueLong => set_number(state, Sheet::Queued, d, dice.below(253) + 3),
             Way::NoSort => set_number(
                 state,
                 Sheet::Sort(Place::First),
                 d,
-                none_or_above(dice, 2, 256) as u16,
+                none_or_above(dice, 2, 256),
             ),
             Way::AckWithLoad => set_number(state, Sheet::Load(Place::First), d, some),
             Way::SecondSort => set_number(state, Sheet::Sort(Place::Second), d, some),
@@ -68,9 +68,10 @@ impl Way {
 }
 
 // One message waits on direction d.
-fn one_waits(state: &mut State, d: u8, sort: Message) {
+fn one_waits(state: &mut State, d: usize, sort: Message) {
+    let sort = usize::from(sort.number());
     set_number(state, Sheet::Queued, d, 1);
-    set_number(state, Sheet::Sort(Place::First), d, sort.number());
+    set_number(state, Sheet::Sort(Place::First), d, sort);
     set_number(state, Sheet::Sort(Place::Second), d, 0);
     set_number(state, Sheet::Load(Place::First), d, 0);
     set_number(state, Sheet::Load(Place::Second), d, 0);
@@ -79,9 +80,9 @@ fn one_waits(state: &mut State, d: u8, sort: Message) {
 // "a count is above rounds"
 fn count_high(state: &mut State, dice: &mut Dice, net: &Network) {
     let sheet = Sheet::Count(Kind::ALL[dice.below(Kind::ALL.len())]);
-    let x = dice.below(used_by(net, sheet).min(256)) as u8;
+    let x = dice.below(used_by(net, sheet).min(256));
     let above = net.rounds.saturating_add(dice.below(3) as u16 + 1);
-    set_number(state, sheet, x, above);
+    set_number(state, sheet, x, usize::from(above));
 }
 
 // "an entry past the node or link count .. is not 0"
@@ -90,7 +91,7 @@ fn number_past(state: &mut State, dice: &mut Dice, net: &Network) {
     let end = if sheet == Sheet::Value { 64 } else { 256 };
     let x = at_least(dice, used_by(net, sheet), end);
     if x < end {
-        set_number(state, sheet, x as u8, dice.below(255) as u16 + 1);
+        set_number(state, sheet, x, dice.below(255) + 1);
     }
 }
 
@@ -108,7 +109,7 @@ fn any_load(dice: &mut Dice, sort: u16) -> u16 {
 
 // A number that place x of a sheet may hold, after those of the sheets before it. Sheet and place change at each call, and a struct of them would be
 // made for it alone.
-fn any_number(dice: &mut Dice, state: &State, rounds: u16, sheet: Sheet, x: u8) -> u16 {
+fn any_number(dice: &mut Dice, state: &State, rounds: u16, sheet: Sheet, x: usize) -> u16 {
     let waiting = usize::from(number(state, Sheet::Queued, x));
     match sheet {
         Sheet::Count(_) => dice.below(usize::from(rounds) + 1) as u16,
@@ -123,20 +124,24 @@ fn any_number(dice: &mut Dice, state: &State, rounds: u16, sheet: Sheet, x: u8) 
 pub fn any_state(dice: &mut Dice, net: &Network) -> State {
     let mut state = blank();
     for sheet in Sheet::ALL {
-        for x in 0..=u8::MAX {
-            if usize::from(x) < used_by(net, sheet) {
+        for x in 0..256 {
+            if x < used_by(net, sheet) {
                 let to = any_number(dice, &state, net.rounds, sheet, x);
-                set_number(&mut state, sheet, x, to);
+                set_number(&mut state, sheet, x, usize::from(to));
             }
         }
     }
     state
 }
 
+// One entry of a state changed, each way in its turn; the clause that then applies.
+pub fn spoil_state(state: &mut State, dice: &mut Dice, net: &Network, turn: usize) -> Clause {
+    Way::ALL[turn % Way::ALL.len()].spoil(state, dice, net)
+}
+
 // Any state of a network with one entry changed, each way in its turn, and the clause that then applies.
 pub fn spoilt_state(dice: &mut Dice, net: &Network, turn: usize) -> (State, Clause) {
-    let way = Way::ALL[turn % Way::ALL.len()];
     let mut state = any_state(dice, net);
-    let clause = way.spoil(&mut state, dice, net);
+    let clause = spoil_state(&mut state, dice, net, turn);
     (state, clause)
 }

@@ -64,7 +64,7 @@ impl Actions {
 // The action of a kind at a node or a direction.
 fn action_of(pairs: &Pairs, kind: Kind, x: u8) -> Action {
     let (p, q) = if kind.is_of_directions() {
-        pairs.pair(x)
+        pairs.pair(usize::from(x))
     } else {
         (x, x)
     };

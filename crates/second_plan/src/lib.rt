@@ -2,6 +2,7 @@
 //
 //   rows::Plan                  a network: a number by row and place
 //   sheets::World               a state: a number by sheet and pair of nodes
+//   named::Names                a row, a sheet or another thing by itself or by its number
 //   read_plan                   bytes to a network: refusals 1 to 10
 //   read_records, unjoined      refusals 1 to 5 of the records alone, and check 10 alone
 //   answers::Answer             what any of these says, in numbers
@@ -10,6 +11,7 @@
 pub mod answers;
 pub mod bytes;
 mod checks;
+pub mod named;
 pub mod nodes;
 mod reading;
 pub mod rows;

@@ -1,6 +1,8 @@
-// The memory of a network: rows of numbers. A place that is not there reads as 0, and a store to it is no store.
+// The memory of a network: rows of numbers. A row or a place that is not there reads as 0, and a store to it is no store.
 
-ghost use Rattle.std.specs.Prelude.{◌<◌};
+ghost use Rattle.std.specs.Prelude.{◌≡◌, ◌<◌, ◌≤◌, IsSome, None};
+
+use crate::named::Names;
 
 pub const MOST_NODES: usize = 64;
 
@@ -53,6 +55,21 @@ impl Row {
     }
 }
 
+impl Names<Row> for Row {
+    fn named(self) -> Option<Row> {
+        Some(self)
+    }
+}
+
+impl Names<Row> for usize {
+    fn named(self) -> Option<Row>
+        ensures there { self < 9 → IsSome result }
+        ensures none { 9 ≤ self → result ≡ None }
+    {
+        Row::ALL.get(self).copied()
+    }
+}
+
 // The single numbers, by their places.
 #[derive(Clone, Copy, Debug, PartialEq, Eq)]
 pub enum Head {
@@ -75,16 +92,17 @@ impl Plan {
     }
 
     // The number at place i of a row.
-    pub fn entry(&self, row: Row, i: usize) -> usize {
-        if i < MOST_LINKS {
-            self.rows[row.number()][i]
-        } else {
-            0
+    pub fn entry<R: Names<Row>>(&self, row: R, i: usize) -> usize {
+        match row.named() {
+            Some(row) if i < MOST_LINKS => self.rows[row.number()][i],
+            _ => 0,
         }
     }
 
-    pub fn set_entry(&mut self, row: Row, i: usize, x: usize) {
-        if i < MOST_LINKS {
+    pub fn set_entry<R: Names<Row>>(&mut self, row: R, i: usize, x: usize) {
+        if let Some(row) = row.named()
+            && i < MOST_LINKS
+        {
             self.rows[row.number()][i] = x;
         }
     }

@@ -1,9 +1,10 @@
 // The memory of a state: a pile of sheets, each with a cell for every ordered pair of nodes. What belongs to a direction p to q stands in
-// the cell (p, q), what belongs to a node p in the cell (p, p). A cell that is not there reads as 0, and a store to it is no store.
+// the cell (p, q), what belongs to a node p in the cell (p, p). A sheet or a cell that is not there reads as 0, and a store to it is no store.
 
-ghost use Rattle.std.specs.Prelude.{◌<◌, ◌≤◌};
+ghost use Rattle.std.specs.Prelude.{◌≡◌, ◌<◌, ◌≤◌, IsSome, None};
 
 use crate::answers::Refusal;
+use crate::named::Names;
 use crate::rows::MOST_NODES;
 
 pub const KINDS: usize = 20;
@@ -213,8 +214,37 @@ impl Sheet {
     }
 }
 
+impl Names<Sheet> for Sheet {
+    fn named(self) -> Option<Sheet> {
+        Some(self)
+    }
+}
+
+// A kind of action names the sheet of its counts.
+impl Names<Sheet> for Kind {
+    fn named(self) -> Option<Sheet> {
+        Some(Sheet::Count(self))
+    }
+}
+
+impl Names<Sheet> for usize {
+    fn named(self) -> Option<Sheet>
+        ensures there { 16 ≤ self → self < 44 → IsSome result }
+        ensures none_below { self < 16 → result ≡ None }
+        ensures none { 44 ≤ self → result ≡ None }
+    {
+        self.checked_sub(FIRST)
+            .and_then(|i| Sheet::ALL.get(i).copied())
+    }
+}
+
+// Whether what a sheet holds belongs to the directions of links; not where no sheet is called so.
+pub fn of_directions<S: Names<Sheet>>(sheet: S) -> bool {
+    sheet.named().is_some_and(Sheet::is_of_directions)
+}
+
 // Of each sheet row after row.
-#[derive(Clone, Copy)]
+#[derive(Clone, Copy, Debug, PartialEq, Eq)]
 pub struct World {
     sheets: [[u16; SHEET]; SHEETS],
 }
@@ -228,25 +258,29 @@ impl World {
     }
 
     // The number in the cell (p, q) of a sheet.
-    pub fn cell(&self, sheet: Sheet, p: usize, q: usize) -> u16 {
-        if p < MOST_NODES && q < MOST_NODES {
-            self.sheets[sheet.index()][p * MOST_NODES + q]
-        } else {
-            0
+    pub fn cell<S: Names<Sheet>>(&self, sheet: S, p: usize, q: usize) -> u16 {
+        match sheet.named() {
+            Some(sheet) if p < MOST_NODES && q < MOST_NODES => {
+                self.sheets[sheet.index()][p * MOST_NODES + q]
+            }
+            _ => 0,
         }
     }
 
-    pub fn set_cell(&mut self, sheet: Sheet, p: usize, q: usize, x: u16) {
-        if p < MOST_NODES && q < MOST_NODES {
+    pub fn set_cell<S: Names<Sheet>>(&mut self, sheet: S, p: usize, q: usize, x: u16) {
+        if let Some(sheet) = sheet.named()
+            && p < MOST_NODES
+            && q < MOST_NODES
+        {
             self.sheets[sheet.index()][p * MOST_NODES + q] = x;
         }
     }
 
-    // How often an action was taken.
-    pub fn count(&self, kind: Kind, p: usize, q: usize) -> usize
+    // The same of a cell, where it is added or compared: on the sheet of a kind, how often an action was taken.
+    pub fn count<S: Names<Sheet>>(&self, sheet: S, p: usize, q: usize) -> usize
         ensures { result < 65536 }
     {
-        usize::from(self.cell(Sheet::Count(kind), p, q))
+        usize::from(self.cell(sheet, p, q))
     }
 
     // One more in a cell. Nothing that is raised is at 65,535: it was found below something else.
