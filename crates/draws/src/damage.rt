@@ -2,8 +2,12 @@
 // chooses by `match` on its number: an enum of the ways would name each of them twice and say no more.
 ghost use Rattle.std.specs.Prelude.{◌≤◌};
 
+use crate::bytes::ByteString;
 use crate::dice::Dice;
 use crate::plans::Plan;
+
+// More links than these are not drawn from.
+const MOST_LINKS: usize = 256;
 
 // Where node p stands.
 pub(crate) fn node_at(p: u8) -> usize
@@ -12,7 +16,7 @@ pub(crate) fn node_at(p: u8) -> usize
     3 + usize::from(p) * 5
 }
 
-impl Plan {
+impl<B: ByteString> Plan<B> {
     // Where link l stands; the end of the plan is where the link after the last would.
     pub(crate) fn link_at(&self, l: usize) -> usize
         requires { l ≤ 1024 }
@@ -21,11 +25,12 @@ impl Plan {
         node_at(self.nodes as u8) + l * 4
     }
 
-    // How many links there are.
+    // How many links there are, or the most.
     pub(crate) fn links(&self) -> usize
         ensures { result ≤ 256 }
     {
-        self.bytes.len().saturating_sub(self.link_at(0) + 1) / 4
+        let size = self.bytes.bytes().len();
+        (size.saturating_sub(self.link_at(0) + 1) / 4).min(MOST_LINKS)
     }
 
     // Where a record stands: the rounds, the nodes, the links, the end.
@@ -56,9 +61,7 @@ impl Plan {
     fn exchange_links(&mut self, dice: &mut Dice) {
         let at = self.any_link_at(dice);
         let other = self.any_link_at(dice);
-        for i in 0..4 {
-            self.bytes.swap(at + i, other + i);
-        }
+        self.bytes.exchange(at, other, 4);
     }
 
     // A node gets another parent, which may be no node.
@@ -119,7 +122,7 @@ impl Plan {
         let flag = dice.below(2) as u8;
         let high = dice.byte();
         let low = (self.nodes as u8).wrapping_sub(1);
-        let at = self.bytes.len().saturating_sub(1);
+        let at = self.bytes.bytes().len().saturating_sub(1);
         self.bytes.insert(at, &[3, low, high, flag]);
     }
 

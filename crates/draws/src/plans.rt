@@ -1,9 +1,11 @@
 // Plans that are accepted: a tree of wires over shuffled node numbers, cut into clusters, then more wires, and one preferred link for each
 // two joined clusters.
-ghost use Rattle.std.specs.Prelude.{◌<◌, ◌≤◌, IfSome};
+ghost use Rattle.std.specs.Prelude.{◌≡◌, ◌<◌, ◌≤◌, IfSome, ⊤};
 
-use crate::bytes::Bytes;
+// `ByteString` is named by its path: brought in, its `get` would stand before the `get` of an array.
+use crate::bytes::{self, Bytes};
 use crate::dice::Dice;
+use std::alloc::AllocError;
 use std::array;
 
 // Room for the bytes of every plan, and for what damage adds.
@@ -49,10 +51,10 @@ pub struct Wish {
     ghost few: { nodes ≤ 64 },
 }
 
-// The bytes of a plan, and how many nodes it was drawn with.
-#[derive(Clone, Copy)]
-pub struct Plan {
-    pub bytes: Bytes<ROOM>,
+// The bytes of a plan, in a room of its own or in any other, and how many nodes it was drawn with.
+#[derive(Copy, Drop)]
+pub struct Plan<B = Bytes<ROOM>> {
+    pub bytes: B,
     pub nodes: usize,
     ghost few: { nodes ≤ 64 },
 }
@@ -64,16 +66,38 @@ struct Sketch {
     wires: [Option<Wire>; PAIRS],
 }
 
-impl Shape {
-    // Half of all draws are trees.
-    fn any(dice: &mut Dice) -> Shape {
-        match dice.below(4) {
+// Written out, since the derive makes none for a struct that has a ghost field and a parameter.
+impl<B: Copy> Clone for Plan<B> {
+    ghost is_clone = { λ plan copy. copy ≡ plan };
+
+    ghost is_infallible = { λ _. ⊤ };
+
+    fn clone(&self) -> Result<Plan<B>, AllocError> {
+        Ok(*self)
+    }
+}
+
+impl From<usize> for Shape {
+    fn from(number: usize) -> Shape {
+        match number {
             0 => Shape::Chain,
             1 => Shape::Star,
             _ => Shape::Tree,
         }
     }
+}
 
+impl From<usize> for Order {
+    fn from(number: usize) -> Order {
+        match number {
+            1 => Order::Backwards,
+            2 => Order::Shuffled,
+            _ => Order::AsCounted,
+        }
+    }
+}
+
+impl Shape {
     // On which node before it the p-th hangs.
     fn above(self, dice: &mut Dice, p: usize) -> usize {
         match self {
@@ -85,15 +109,6 @@ impl Shape {
 }
 
 impl Order {
-    // A fifth of all draws are backwards, and a fifth shuffled.
-    fn any(dice: &mut Dice) -> Order {
-        match dice.below(5) {
-            1 => Order::Backwards,
-            2 => Order::Shuffled,
-            _ => Order::AsCounted,
-        }
-    }
-
     // The numbers of so many nodes.
     fn names(self, dice: &mut Dice, nodes: usize) -> [u8; MOST_NODES]
         requires { nodes ≤ 64 }
@@ -109,7 +124,29 @@ impl Order {
 }
 
 impl Wish {
-    // Most plans are small; some have any size, and some the largest.
+    // Any numbers: more than 64 nodes count as 64, and of the rounds the low two bytes count.
+    pub fn of<S: Into<Shape>, O: Into<Order>>(
+        nodes: usize,
+        links: usize,
+        rounds: usize,
+        shape: S,
+        cut: usize,
+        order: O,
+    ) -> Wish
+        ensures { nodes ≤ 64 → result.nodes ≡ nodes }
+    {
+        Wish {
+            nodes: nodes.min(MOST_NODES),
+            links,
+            rounds: (rounds & 0xffff) as u16,
+            shape: shape.into(),
+            cut,
+            order: order.into(),
+        }
+    }
+
+    // Most plans are small; some have any size, and some the largest. Half of all are trees; a fifth are numbered backwards, and a fifth
+    // shuffled.
     pub fn any(dice: &mut Dice) -> Wish {
         let nodes = match dice.below(10) {
             0 => MOST_NODES,
@@ -121,14 +158,11 @@ impl Wish {
             1 => 128,
             _ => nodes + dice.below(nodes),
         };
-        Wish {
-            nodes,
-            links,
-            rounds: dice.below(3) as u16 + 1,
-            shape: Shape::any(dice),
-            cut: dice.below(6),
-            order: Order::any(dice),
-        }
+        let rounds = dice.below(3) + 1;
+        let shape = dice.below(4);
+        let cut = dice.below(6);
+        let order = dice.below(5);
+        Wish::of(nodes, links, rounds, shape, cut, order)
     }
 }
 
@@ -231,14 +265,14 @@ impl Sketch {
         }
     }
 
-    fn write_nodes(&self, dice: &mut Dice, plan: &mut Plan) {
+    fn write_nodes<B: bytes::ByteString>(&self, dice: &mut Dice, plan: &mut Plan<B>) {
         for p in 0..plan.nodes as u8 {
             let [high, low] = start_value(dice).to_be_bytes();
             plan.bytes.extend(&[2, p, self.parent(p), high, low]);
         }
     }
 
-    fn write_links(&self, plan: &mut Plan) {
+    fn write_links<B: bytes::ByteString>(&self, plan: &mut Plan<B>) {
         for (pair, wire) in self.wires.iter().enumerate() {
             if let Some(sort) = wire {
                 let a = (pair / MOST_NODES) as u8;
@@ -260,16 +294,29 @@ fn start_value(dice: &mut Dice) -> u16 {
 }
 
 impl Plan {
-    // A plan as asked for.
+    // A plan as asked for, in a room of its own.
     pub fn drawn(dice: &mut Dice, wish: Wish) -> Plan {
+        Plan::drawn_in(dice, wish, Bytes::new())
+    }
+}
+
+impl<B: bytes::ByteString> Plan<B> {
+    // The plan of these bytes and so many nodes; more than 64 count as 64.
+    pub fn of(bytes: B, nodes: usize) -> Plan<B>
+        ensures { nodes ≤ 64 → result.nodes ≡ nodes }
+    {
+        let nodes = nodes.min(MOST_NODES);
+        Plan { bytes, nodes }
+    }
+
+    // A plan as asked for, in this string, in place of what was there.
+    pub fn drawn_in(dice: &mut Dice, wish: Wish, bytes: B) -> Plan<B> {
         let mut sketch = Sketch::new();
         sketch.hang_all(dice, wish);
         sketch.join_more(dice, wish);
         sketch.prefer_all(dice);
-        let mut plan = Plan {
-            bytes: Bytes::new(),
-            nodes: wish.nodes,
-        };
+        let mut plan = Plan::of(bytes, wish.nodes);
+        plan.bytes.truncate(0);
         let [high, low] = wish.rounds.to_be_bytes();
         plan.bytes.extend(&[1, high, low]);
         sketch.write_nodes(dice, &mut plan);

@@ -1,13 +1,21 @@
 // Plans as they are handed over to be laid out: parents and flags that nobody filled in, and bytes behind the plan's end.
-use crate::bytes::Bytes;
+use crate::bytes::{ByteString, Bytes};
 use crate::damage::node_at;
 use crate::dice::Dice;
 use crate::plans::{Plan, Wish};
 
 impl Plan {
-    // A plan with any parents and flags; of eight one is damaged, one has lost links and one may have a wrong flag.
+    // A plan with any parents and flags, in a room of its own.
     pub fn unfilled(dice: &mut Dice, wish: Wish) -> Plan {
-        let mut plan = Plan::drawn(dice, wish);
+        Plan::unfilled_in(dice, wish, Bytes::new())
+    }
+}
+
+impl<B: ByteString> Plan<B> {
+    // A plan with any parents and flags; of eight one is damaged, one has lost links and one may have a wrong flag. It stands in this string,
+    // in place of what was there.
+    pub fn unfilled_in(dice: &mut Dice, wish: Wish, bytes: B) -> Plan<B> {
+        let mut plan = Plan::drawn_in(dice, wish, bytes);
         plan.any_parents(dice);
         plan.any_flags(dice);
         match dice.below(8) {
@@ -50,15 +58,5 @@ impl Plan {
         let at = self.any_link_at(dice);
         let flag = dice.below(254) as u8 + 2;
         self.bytes.set(at + 3, flag);
-    }
-}
-
-impl<const ROOM: usize> Bytes<ROOM> {
-    // Half the time up to seven bytes more behind a plan.
-    pub fn extend_any(&mut self, dice: &mut Dice) {
-        let most = if dice.once_in(2) { 8 } else { 0 };
-        for _ in 0..dice.below(most) {
-            self.push(dice.byte());
-        }
     }
 }

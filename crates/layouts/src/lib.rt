@@ -3,7 +3,7 @@
 #![tactic(auto)]
 
 use compare::tally::{Tally, Trials, answer_of};
-use draws::bytes::Bytes;
+use draws::bytes::{ByteString, Bytes};
 use draws::dice::Dice;
 use draws::plans::{Plan, ROOM, Wish};
 use second_plan::answers::Answer;

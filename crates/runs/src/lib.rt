@@ -6,7 +6,7 @@ use calls::both::{Action, try_act, try_list, try_method, try_start};
 use compare::networks::plan_of;
 use compare::states::{Pairs, same_state, used_by, world_of};
 use compare::tally::{Tally, Trials};
-use draws::bytes::Bytes;
+use draws::bytes::{ByteString, Bytes};
 use draws::dice::Dice;
 use network::Network;
 use second_plan::answers::Answer;
