@@ -5,7 +5,7 @@ ghost use Rattle.std.specs.Prelude.{◌≡◌, ◌<◌, ◌≤◌, IsSome, None}
 use answers::{Refusal, Refused};
 use draws::dice::Dice;
 use second_plan::answers::Answer;
-use second_plan::named::Names;
+use second_plan::named::{Names, numbered};
 use std::convert::AsSlice;
 use std::io;
 use std::io::{Print, Stdout};
@@ -37,20 +37,13 @@ impl Clause {
     ];
 }
 
-impl Names<Clause> for Clause {
-    fn named(self) -> Option<Clause> {
-        Some(self)
-    }
-}
-
 impl Names<Clause> for usize {
     fn named(self) -> Option<Clause>
         ensures there { 1 ≤ self → self < 9 → IsSome result }
         ensures none_below { self < 1 → result ≡ None }
         ensures none { 9 ≤ self → result ≡ None }
     {
-        self.checked_sub(1)
-            .and_then(|i| Clause::ALL.get(i).copied())
+        numbered(&Clause::ALL, 1, self)
     }
 }
 
@@ -161,7 +154,7 @@ impl Tally {
         }
     }
 
-    // Two lists of one length that have to be the same.
+    // Two lists of one length that have to be the same. Past the end of a shorter second list stand zeros.
     pub fn same_list<W: AsSlice<u8> + Copy, T: Copy + Into<usize>>(
         &mut self,
         what: W,
@@ -169,8 +162,9 @@ impl Tally {
         second: &[T],
     ) {
         raise(&mut self.compared, bench.len());
-        for (place, (x, y)) in bench.iter().zip(second).enumerate() {
-            let (x, y) = ((*x).into(), (*y).into());
+        for (place, x) in bench.iter().enumerate() {
+            let x = (*x).into();
+            let y = second.get(place).map_or(0, |y| (*y).into());
             if x != y {
                 self.differ(what, place, x, y);
                 return;

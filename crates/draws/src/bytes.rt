@@ -57,16 +57,16 @@ pub trait ByteString {
 
     // These bytes put in at a place, the rest moved up.
     fn insert(&mut self, at: usize, more: &[u8]) {
-        let len = self.bytes().len();
-        let longer = len + more.len();
+        let bytes = self.bytes().len();
         let room = self.room();
-        if at > len || longer > room.len() {
+        let len = bytes.min(room.len());
+        if at > len || more.len() > room.len() - len {
             return;
         }
         let end = at + more.len();
         room.copy_within(at..len, end);
         room[at..end].copy_from_slice(more);
-        self.resize(longer);
+        self.resize(len + more.len());
     }
 
     fn extend(&mut self, more: &[u8]) {

@@ -112,23 +112,23 @@ fn fill_past(plan: &mut Plan, dice: &mut Dice) -> Clause {
     Clause::Past
 }
 
-// One entry of a network changed, each way in its turn; the clause that it breaks. A list is changed only where there are two links.
-pub fn spoil_network(plan: &mut Plan, dice: &mut Dice, turn: usize) -> Clause {
-    let wanted = turn % Way::ALL.len();
-    let way = if plan.links() < 2 {
-        Way::ALL[wanted % OF_NO_LIST]
+// One entry of a network changed in one of so many ways, past the last of which all change what stands past the counts; the clause that it
+// breaks. A list is changed only where there are two links.
+pub fn spoil_network(plan: &mut Plan, dice: &mut Dice, way: usize) -> Clause {
+    let wanted = if plan.links() < 2 {
+        way % OF_NO_LIST
     } else {
-        Way::ALL[wanted]
+        way
     };
+    let way = Way::ALL.get(wanted).copied().unwrap_or(Way::Past);
     way.spoil(plan, dice)
 }
 
-// The network of a plan that was spoilt in its turn. Of a changed list the sets are made again half the time, so that nothing but the list is
+// The network of a plan that was spoilt in that way. Of a changed list the sets are made again half the time, so that nothing but the list is
 // wrong.
-pub fn network_from(plan: &Plan, dice: &mut Dice, turn: usize) -> Network {
-    let wanted = turn % Way::ALL.len();
+pub fn network_from(plan: &Plan, dice: &mut Dice, way: usize) -> Network {
     let spoilt = network_of(plan);
-    if wanted >= OF_NO_LIST && dice.once_in(2) {
+    if way >= OF_NO_LIST && dice.once_in(2) {
         spoilt.with_sets()
     } else {
         spoilt
@@ -137,9 +137,10 @@ pub fn network_from(plan: &Plan, dice: &mut Dice, turn: usize) -> Network {
 
 // A network with one entry changed, each way in its turn, and the clause that applies.
 pub fn spoilt_network(dice: &mut Dice, net: &Network, turn: usize) -> (Network, Clause) {
+    let way = turn % Way::ALL.len();
     let mut plan = plan_of(net);
-    let clause = spoil_network(&mut plan, dice, turn);
-    (network_from(&plan, dice, turn), clause)
+    let clause = spoil_network(&mut plan, dice, way);
+    (network_from(&plan, dice, way), clause)
 }
 
 // A network that 17 lets pass, though its parents may run in rings and its preferred links join what they like.

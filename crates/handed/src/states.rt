@@ -134,14 +134,16 @@ pub fn any_state(dice: &mut Dice, net: &Network) -> State {
     state
 }
 
-// One entry of a state changed, each way in its turn; the clause that then applies.
-pub fn spoil_state(state: &mut State, dice: &mut Dice, net: &Network, turn: usize) -> Clause {
-    Way::ALL[turn % Way::ALL.len()].spoil(state, dice, net)
+// One entry of a state changed in one of so many ways, past the last of which all change what stands past the counts; the clause that then
+// applies.
+pub fn spoil_state(state: &mut State, dice: &mut Dice, net: &Network, way: usize) -> Clause {
+    let way = Way::ALL.get(way).copied().unwrap_or(Way::Past);
+    way.spoil(state, dice, net)
 }
 
 // Any state of a network with one entry changed, each way in its turn, and the clause that then applies.
 pub fn spoilt_state(dice: &mut Dice, net: &Network, turn: usize) -> (State, Clause) {
     let mut state = any_state(dice, net);
-    let clause = spoil_state(&mut state, dice, net, turn);
+    let clause = spoil_state(&mut state, dice, net, turn % Way::ALL.len());
     (state, clause)
 }

@@ -2,7 +2,7 @@
 
 ghost use Rattle.std.specs.Prelude.{◌≡◌, ◌<◌, ◌≤◌, IsSome, None};
 
-use crate::named::Names;
+use crate::named::{Names, numbered};
 
 pub const MOST_NODES: usize = 64;
 
@@ -55,18 +55,12 @@ impl Row {
     }
 }
 
-impl Names<Row> for Row {
-    fn named(self) -> Option<Row> {
-        Some(self)
-    }
-}
-
 impl Names<Row> for usize {
     fn named(self) -> Option<Row>
         ensures there { self < 9 → IsSome result }
         ensures none { 9 ≤ self → result ≡ None }
     {
-        Row::ALL.get(self).copied()
+        numbered(&Row::ALL, 0, self)
     }
 }
 

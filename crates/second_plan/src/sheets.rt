@@ -4,7 +4,7 @@
 ghost use Rattle.std.specs.Prelude.{◌≡◌, ◌<◌, ◌≤◌, IsSome, None};
 
 use crate::answers::Refusal;
-use crate::named::Names;
+use crate::named::{Names, numbered};
 use crate::rows::MOST_NODES;
 
 pub const KINDS: usize = 20;
@@ -92,10 +92,7 @@ impl TryFrom<u8> for Kind {
     type Error = Refusal;
 
     fn try_from(number: u8) -> Result<Kind, Refusal> {
-        usize::from(number)
-            .checked_sub(FIRST)
-            .and_then(|i| Kind::ALL.get(i).copied())
-            .ok_or(Refusal::UnknownAction)
+        numbered(&Kind::ALL, FIRST, usize::from(number)).ok_or(Refusal::UnknownAction)
     }
 }
 
@@ -214,12 +211,6 @@ impl Sheet {
     }
 }
 
-impl Names<Sheet> for Sheet {
-    fn named(self) -> Option<Sheet> {
-        Some(self)
-    }
-}
-
 // A kind of action names the sheet of its counts.
 impl Names<Sheet> for Kind {
     fn named(self) -> Option<Sheet> {
@@ -233,8 +224,7 @@ impl Names<Sheet> for usize {
         ensures none_below { self < 16 → result ≡ None }
         ensures none { 44 ≤ self → result ≡ None }
     {
-        self.checked_sub(FIRST)
-            .and_then(|i| Sheet::ALL.get(i).copied())
+        numbered(&Sheet::ALL, FIRST, self)
     }
 }
 
