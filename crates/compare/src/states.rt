@@ -14,9 +14,14 @@ use second_plan::sheets::{FIRST, Kind, Parity, Place, SHEET, Sheet, World};
 use std::array;
 use synchronizer::State;
 
-// How many numbers a state has, and where each of its lists starts when they stand one after the other.
-const NUMBERS: usize = 6976;
+// How many numbers a state has.
+pub const NUMBERS: usize = 6976;
 
+// The lists of a state one after the other. A state itself has only a byte for a queue's length or a message's sort, and a cell of these may hold
+// more.
+pub type Numbers = [u16; NUMBERS];
+
+// Where each of the lists starts.
 const LENS: usize = 5120;
 
 const SORTS: usize = 5376;
@@ -43,50 +48,76 @@ fn called<S: Names<Sheet>>(sheet: S, x: usize) -> Option<(Sheet, u8)> {
     Some((sheet.named()?, u8::try_from(x).ok()?))
 }
 
-// A number that is not there reads as 0, and a write to it is none.
-pub fn number<S: Names<Sheet>>(state: &State, sheet: S, x: usize) -> u16 {
-    let Some((sheet, x)) = called(sheet, x) else {
-        return 0;
-    };
-    let queues = &state.queues;
-    let found = match sheet {
-        Sheet::Count(kind) => state.counts.get(count_at(kind, x)).copied(),
-        Sheet::Queued => queues.lens.get(usize::from(x)).map(|len| u16::from(*len)),
-        Sheet::Sort(place) => queues
-            .sorts
-            .get(half_at(x, place == Place::Second))
-            .map(|sort| u16::from(*sort)),
-        Sheet::Load(place) => queues
-            .loads
-            .get(half_at(x, place == Place::Second))
-            .copied(),
-        Sheet::Slot(parity) => state.slots.get(half_at(x, parity == Parity::Odd)).copied(),
-        Sheet::Value => state.values.get(usize::from(x)).copied(),
-    };
-    found.unwrap_or(0)
-}
-
 fn put<T: Copy>(list: &mut [T], at: usize, x: T) {
     if let Some(place) = list.get_mut(at) {
         *place = x;
     }
 }
 
-// What is written keeps the two low bytes, and in a place of one byte the low one.
-pub fn set_number<S: Names<Sheet>>(state: &mut State, sheet: S, x: usize, to: usize) {
-    let Some((sheet, x)) = called(sheet, x) else {
-        return;
-    };
-    let to = word(to);
-    let [_, low] = to.to_be_bytes();
-    let queues = &mut state.queues;
-    match sheet {
-        Sheet::Count(kind) => put(&mut state.counts, count_at(kind, x), to),
-        Sheet::Queued => put(&mut queues.lens, usize::from(x), low),
-        Sheet::Sort(place) => put(&mut queues.sorts, half_at(x, place == Place::Second), low),
-        Sheet::Load(place) => put(&mut queues.loads, half_at(x, place == Place::Second), to),
-        Sheet::Slot(parity) => put(&mut state.slots, half_at(x, parity == Parity::Odd), to),
-        Sheet::Value => put(&mut state.values, usize::from(x), to),
+// What holds the numbers of a state: the state itself, or the list of them. A number that is not there reads as 0, and a write to it is none.
+pub trait Holds {
+    fn at(&self, sheet: Sheet, x: u8) -> u16;
+
+    fn set(&mut self, sheet: Sheet, x: u8, to: u16);
+}
+
+// A place of one byte keeps the low one.
+impl Holds for State {
+    fn at(&self, sheet: Sheet, x: u8) -> u16 {
+        let queues = &self.queues;
+        let found = match sheet {
+            Sheet::Count(kind) => self.counts.get(count_at(kind, x)).copied(),
+            Sheet::Queued => queues.lens.get(usize::from(x)).map(|len| u16::from(*len)),
+            Sheet::Sort(place) => queues
+                .sorts
+                .get(half_at(x, place == Place::Second))
+                .map(|sort| u16::from(*sort)),
+            Sheet::Load(place) => queues
+                .loads
+                .get(half_at(x, place == Place::Second))
+                .copied(),
+            Sheet::Slot(parity) => self.slots.get(half_at(x, parity == Parity::Odd)).copied(),
+            Sheet::Value => self.values.get(usize::from(x)).copied(),
+        };
+        found.unwrap_or(0)
+    }
+
+    fn set(&mut self, sheet: Sheet, x: u8, to: u16) {
+        let [_, low] = to.to_be_bytes();
+        let queues = &mut self.queues;
+        match sheet {
+            Sheet::Count(kind) => put(&mut self.counts, count_at(kind, x), to),
+            Sheet::Queued => put(&mut queues.lens, usize::from(x), low),
+            Sheet::Sort(place) => put(&mut queues.sorts, half_at(x, place == Place::Second), low),
+            Sheet::Load(place) => put(&mut queues.loads, half_at(x, place == Place::Second), to),
+            Sheet::Slot(parity) => put(&mut self.slots, half_at(x, parity == Parity::Odd), to),
+            Sheet::Value => put(&mut self.values, usize::from(x), to),
+        }
+    }
+}
+
+impl Holds for Numbers {
+    fn at(&self, sheet: Sheet, x: u8) -> u16 {
+        self.get(index_of(sheet, x)).copied().unwrap_or(0)
+    }
+
+    fn set(&mut self, sheet: Sheet, x: u8, to: u16) {
+        put(self, index_of(sheet, x), to);
+    }
+}
+
+// 0 where no sheet is called so, or it has no such place.
+pub fn number<H: Holds, S: Names<Sheet>>(numbers: &H, sheet: S, x: usize) -> u16 {
+    match called(sheet, x) {
+        Some((sheet, x)) => numbers.at(sheet, x),
+        None => 0,
+    }
+}
+
+// What is written keeps the two low bytes.
+pub fn set_number<H: Holds, S: Names<Sheet>>(numbers: &mut H, sheet: S, x: usize, to: usize) {
+    if let Some((sheet, x)) = called(sheet, x) {
+        numbers.set(sheet, x, word(to));
     }
 }
 
@@ -113,14 +144,14 @@ fn index_of(sheet: Sheet, x: u8) -> usize {
 }
 
 // A list among the numbers, from a place on.
-fn pour(numbers: &mut [u16; NUMBERS], at: usize, list: &[u16])
+fn pour(numbers: &mut Numbers, at: usize, list: &[u16])
     requires { at + length list.now ≤ 6976 }
 {
     numbers[at..at + list.len()].copy_from_slice(list);
 }
 
 // The lists of a state one after the other.
-fn numbers_of(state: &State) -> [u16; NUMBERS] {
+fn numbers_of(state: &State) -> Numbers {
     let mut numbers = [0; NUMBERS];
     pour(&mut numbers, 0, &state.counts);
     pour(&mut numbers, LENS, &state.queues.lens.map(u16::from));
@@ -140,7 +171,7 @@ fn are_linked(net: &Network, p: usize, q: usize) -> bool {
 // For each direction its pair of nodes; those past the links have pairs that no link joins.
 #[derive(Clone, Copy, Debug, PartialEq, Eq)]
 pub struct Pairs {
-    ends: [(u8, u8); 256],
+    pub ends: [(u8, u8); 256],
 }
 
 impl Pairs {
@@ -197,21 +228,20 @@ pub fn world_of(net: &Network, state: &State) -> World {
     for sheet in Sheet::ALL {
         for x in 0..=u8::MAX {
             let (p, q) = pairs.cell(sheet, x);
-            world.set_cell(sheet, p, q, number(state, sheet, usize::from(x)));
+            world.set_cell(sheet, p, q, state.at(sheet, x));
         }
     }
     world
 }
 
-// Every number in its place of a state's lists. A state itself has only a byte for a queue's length or a message's sort, and a cell may
-// hold more.
-fn numbers_in(net: &Network, world: &World) -> [u16; NUMBERS] {
+// Every number in its place of a state's lists.
+fn numbers_in(net: &Network, world: &World) -> Numbers {
     let pairs = Pairs::of(net);
     let mut numbers = [0; NUMBERS];
     for sheet in Sheet::ALL {
         for x in 0..=u8::MAX {
             let (p, q) = pairs.cell(sheet, x);
-            put(&mut numbers, index_of(sheet, x), world.cell(sheet, p, q));
+            numbers.set(sheet, x, world.cell(sheet, p, q));
         }
     }
     numbers

@@ -51,7 +51,10 @@ pub trait ByteString {
     // So many bytes exchanged from two places on, one after the other.
     fn exchange(&mut self, at: usize, other: usize, count: usize) {
         for i in 0..count.min(self.bytes().len()) {
-            self.swap(at.saturating_add(i), other.saturating_add(i));
+            let (x, y) = (at.saturating_add(i), other.saturating_add(i));
+            let (b, c) = (self.get(x), self.get(y));
+            self.set(x, c);
+            self.set(y, b);
         }
     }
 

@@ -217,7 +217,9 @@ impl Sketch {
 
     // More wires between any two nodes, until there are as many as asked for or luck is out.
     fn join_more(&mut self, dice: &mut Dice, wish: Wish) {
-        let mut have = wish.nodes.saturating_sub(1);
+        let Some(mut have) = wish.nodes.checked_sub(1) else {
+            return;
+        };
         for _ in 0..PAIRS {
             if wish.links <= have {
                 return;

@@ -1,6 +1,6 @@
 // States with one entry changed, and states that no run comes to.
 use crate::{at_least, none_or_above};
-use compare::states::{blank, directions_of, number, set_number, used_by};
+use compare::states::{Holds, blank, directions_of, number, set_number, used_by};
 use compare::tally::Clause;
 use draws::dice::Dice;
 use network::Network;
@@ -31,7 +31,7 @@ impl Way {
     ];
 
     // One entry of a state changed, after one message was made to wait on a direction; the clause that then applies.
-    fn spoil(self, state: &mut State, dice: &mut Dice, net: &Network) -> Clause {
+    fn spoil<H: Holds>(self, state: &mut H, dice: &mut Dice, net: &Network) -> Clause {
         let d = dice.below(directions_of(net));
         let some = dice.below(255) + 1;
         let sort = if self == Way::AckWithLoad {
@@ -68,7 +68,7 @@ impl Way {
 }
 
 // One message waits on direction d.
-fn one_waits(state: &mut State, d: usize, sort: Message) {
+fn one_waits<H: Holds>(state: &mut H, d: usize, sort: Message) {
     let sort = usize::from(sort.number());
     set_number(state, Sheet::Queued, d, 1);
     set_number(state, Sheet::Sort(Place::First), d, sort);
@@ -78,7 +78,7 @@ fn one_waits(state: &mut State, d: usize, sort: Message) {
 }
 
 // "a count is above rounds"
-fn count_high(state: &mut State, dice: &mut Dice, net: &Network) {
+fn count_high<H: Holds>(state: &mut H, dice: &mut Dice, net: &Network) {
     let sheet = Sheet::Count(Kind::ALL[dice.below(Kind::ALL.len())]);
     let x = dice.below(used_by(net, sheet).min(256));
     let above = net.rounds.saturating_add(dice.below(3) as u16 + 1);
@@ -86,7 +86,7 @@ fn count_high(state: &mut State, dice: &mut Dice, net: &Network) {
 }
 
 // "an entry past the node or link count .. is not 0"
-fn number_past(state: &mut State, dice: &mut Dice, net: &Network) {
+fn number_past<H: Holds>(state: &mut H, dice: &mut Dice, net: &Network) {
     let sheet = Sheet::ALL[dice.below(Sheet::ALL.len())];
     let end = if sheet == Sheet::Value { 64 } else { 256 };
     let x = at_least(dice, used_by(net, sheet), end);
@@ -134,9 +134,9 @@ pub fn any_state(dice: &mut Dice, net: &Network) -> State {
     state
 }
 
-// One entry of a state changed in one of so many ways, past the last of which all change what stands past the counts; the clause that then
-// applies.
-pub fn spoil_state(state: &mut State, dice: &mut Dice, net: &Network, way: usize) -> Clause {
+// One entry of a state, or of the list of its numbers, changed in one of so many ways, past the last of which all change what stands past the
+// counts; the clause that then applies.
+pub fn spoil_state<H: Holds>(state: &mut H, dice: &mut Dice, net: &Network, way: usize) -> Clause {
     let way = Way::ALL.get(way).copied().unwrap_or(Way::Past);
     way.spoil(state, dice, net)
 }
