@@ -168,29 +168,31 @@ fn are_linked(net: &Network, p: usize, q: usize) -> bool {
         .is_some_and(|set| (*set >> (q % 64)) % 2 == 1)
 }
 
-// For each direction its pair of nodes; those past the links have pairs that no link joins.
+// For each direction its pair of nodes, 64 p + q from p to q; those past the links have pairs that no link joins.
 #[derive(Clone, Copy, Debug, PartialEq, Eq)]
 pub struct Pairs {
-    pub ends: [(u8, u8); 256],
+    pub codes: [u16; 256],
 }
 
 impl Pairs {
     pub fn of(net: &Network) -> Pairs {
-        let mut ends: [(u8, u8); 256] = array::from_fn(|d| {
+        let mut codes: [u16; 256] = array::from_fn(|d| {
             let (a, b) = (net.lowers[d / 2] % 64, net.uppers[d / 2] % 64);
-            if d % 2 == 0 { (a, b) } else { (b, a) }
+            let (p, q) = if d % 2 == 0 { (a, b) } else { (b, a) };
+            u16::from(p) * 64 + u16::from(q)
         });
         let free = (0..SHEET).filter(|i| !are_linked(net, i / 64, i % 64));
-        let past = &mut ends[directions_of(net)..];
-        for (pair, i) in past.iter_mut().zip(free) {
-            *pair = ((i / 64 % 64) as u8, (i % 64) as u8);
+        let past = &mut codes[directions_of(net)..];
+        for (code, i) in past.iter_mut().zip(free) {
+            *code = word(i);
         }
-        Pairs { ends }
+        Pairs { codes }
     }
 
     // The pair of direction d; past the last one nodes 0 and 0.
     pub fn pair(&self, d: usize) -> (u8, u8) {
-        self.ends.get(d).copied().unwrap_or((0, 0))
+        let code = self.codes.get(d).copied().unwrap_or(0);
+        ((code / 64 % 256) as u8, (code % 64) as u8)
     }
 
     // The cell of place x of a sheet. A node's is (x, x), and one past all nodes has one beside it.
